@@ -1,0 +1,12 @@
+//! Documents as trees, as rows of a table and as text: the plain types and the definitions that all other crates cite.
+#![tactic(auto)]
+
+mod code;
+mod laws;
+mod row;
+mod text;
+
+pub use code::{Code, Refusal, code_text};
+pub use laws::equal_flattenings;
+pub use row::{Kind, Row, ValueRef};
+pub use text::{Name, NoMemory, Text};
