@@ -23,79 +23,147 @@ impl Model for Code {
 
 impl Code {
     pub const XPST0003: Code = Code(0);
+
     pub const XPST0008: Code = Code(1);
+
     pub const XPST0017: Code = Code(2);
+
     pub const XPST0081: Code = Code(3);
+
     pub const XPDY0002: Code = Code(4);
+
     pub const XPDY0050: Code = Code(5);
+
     pub const XPTY0004: Code = Code(6);
+
     pub const XPTY0018: Code = Code(7);
+
     pub const XPTY0019: Code = Code(8);
+
     pub const XPTY0020: Code = Code(9);
+
     pub const XQST0022: Code = Code(10);
+
     pub const XQST0033: Code = Code(11);
+
     pub const XQST0040: Code = Code(12);
+
     pub const XQST0066: Code = Code(13);
+
     pub const XQST0070: Code = Code(14);
+
     pub const XQST0071: Code = Code(15);
+
     pub const XQST0085: Code = Code(16);
+
     pub const XQST0089: Code = Code(17);
+
     pub const XQST0090: Code = Code(18);
+
     pub const XQTY0024: Code = Code(19);
+
     pub const XQDY0025: Code = Code(20);
+
     pub const XQDY0026: Code = Code(21);
+
     pub const XQDY0041: Code = Code(22);
+
     pub const XQDY0044: Code = Code(23);
+
     pub const XQDY0064: Code = Code(24);
+
     pub const XQDY0072: Code = Code(25);
+
     pub const XQDY0074: Code = Code(26);
+
     pub const FORG0001: Code = Code(27);
+
     pub const FORG0006: Code = Code(28);
+
     pub const FOAR0001: Code = Code(29);
+
     pub const FOAR0002: Code = Code(30);
+
     pub const FODC0002: Code = Code(31);
+
     pub const XUST0001: Code = Code(32);
+
     pub const XUST0002: Code = Code(33);
+
     pub const XUTY0004: Code = Code(34);
+
     pub const XUTY0005: Code = Code(35);
+
     pub const XUTY0006: Code = Code(36);
+
     pub const XUTY0007: Code = Code(37);
+
     pub const XUTY0008: Code = Code(38);
+
     pub const XUTY0010: Code = Code(39);
+
     pub const XUTY0011: Code = Code(40);
+
     pub const XUTY0012: Code = Code(41);
+
     pub const XUTY0013: Code = Code(42);
+
     pub const XUTY0022: Code = Code(43);
+
     pub const XUDY0009: Code = Code(44);
+
     pub const XUDY0014: Code = Code(45);
+
     pub const XUDY0015: Code = Code(46);
+
     pub const XUDY0016: Code = Code(47);
+
     pub const XUDY0017: Code = Code(48);
+
     pub const XUDY0021: Code = Code(49);
+
     pub const XUDY0023: Code = Code(50);
+
     pub const XUDY0024: Code = Code(51);
+
     pub const XUDY0025: Code = Code(52);
+
     pub const XUDY0027: Code = Code(53);
+
     pub const XUDY0029: Code = Code(54);
+
     pub const XUDY0030: Code = Code(55);
     /// A line has none of the commands' forms, or isn't UTF-8.
     pub const XKCM0001: Code = Code(56);
     /// A form that isn't built yet.
     pub const XKCM0002: Code = Code(57);
+
     pub const XKDB0001: Code = Code(58);
+
     pub const XKDB0002: Code = Code(59);
+
     pub const XKDB0003: Code = Code(60);
+
     pub const XKDB0004: Code = Code(61);
+
     pub const XKDB0005: Code = Code(62);
+
     pub const XKDB0006: Code = Code(63);
+
     pub const XKFI0001: Code = Code(64);
+
     pub const XKFI0002: Code = Code(65);
+
     pub const XKXM0001: Code = Code(66);
     /// The XML isn't well formed.
     pub const XKXM0002: Code = Code(67);
+
     pub const XKXM0003: Code = Code(68);
+
     pub const XKXM0004: Code = Code(69);
+
     pub const XKXM0005: Code = Code(70);
+
     pub const XKXM0006: Code = Code(71);
     /// A line of more than 2^24 bytes.
     pub const XKLM0001: Code = Code(72);
@@ -103,11 +171,17 @@ impl Code {
     pub const XKLM0002: Code = Code(73);
     /// More than 2^24 nodes.
     pub const XKLM0003: Code = Code(74);
+
     pub const XKLM0004: Code = Code(75);
+
     pub const XKLM0005: Code = Code(76);
+
     pub const XKLM0006: Code = Code(77);
+
     pub const XKLM0007: Code = Code(78);
+
     pub const XKUP0001: Code = Code(79);
+
     pub const XKCN0001: Code = Code(80);
 }
 

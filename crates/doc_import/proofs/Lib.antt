@@ -1,0 +1,14 @@
+pub mod Spans
+pub mod Readers
+pub mod Words
+pub mod Names
+pub mod Lexing
+pub mod Ordered
+pub mod Spelling
+pub mod Working
+pub mod Named
+pub mod Rowing
+pub mod Noting
+pub mod Steps
+pub mod Theorem
+pub mod Answering

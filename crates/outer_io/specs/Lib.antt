@@ -1,0 +1,4 @@
+-- What reads and writes do.
+pub mod Outer
+pub mod Memory
+pub mod Calm
