@@ -1,6 +1,7 @@
 pub mod Spans
 pub mod Readers
 pub mod Words
+pub mod Blocks
 pub mod Names
 pub mod Lexing
 pub mod Ordered

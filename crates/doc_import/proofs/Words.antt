@@ -3,7 +3,8 @@ use Rattle.std.proofs.Common.{◌≡◌, ℕ, ◌+◌, ◌<◌, Bool, true, fals
 use Rattle.std.specs.Prelude.{nat_eq, codes}
 use Rattle.std.proofs.lemmas.List.{drop_more}
 use lib.Pointwise.{pointwise}
-use Rattle.std.specs.List.{prefix_len}
+use Rattle.std.specs.List.{prefix_len, list_any}
+use Rattle.std.proofs.lemmas.Bool.{false≢true}
 use Rattle.tree_model.specs.Chars.{begins_with, has, starts, is_name_start, is_name_char, is_ncname}
 use Rattle.doc_import.specs.Item.{ncname}
 use Rattle.doc_import.proofs.Spans.{front, skip, front_passes}
@@ -51,3 +52,12 @@ name_yes bytes is = ap (λ b. cond b (read (front is_name_char bytes) (skip is_n
 
 pub name_none : (bytes : List ℕ) → starts is_name_start (take (prefix_len is_name_char bytes) bytes) ≡ false → ncname bytes ≡ None
 name_none bytes is = ap (λ b. cond b (read (front is_name_char bytes) (skip is_name_char bytes)) None) (front_is bytes ∙ is)
+
+-- without a ] there is no ]]>
+pub no_bracket : (bytes : List ℕ) → list_any (λ b. eqb b 93) bytes ≡ false → has close bytes ≡ false
+no_bracket [] none = refl
+no_bracket (c ∷ bytes) none = by (no_bracket bytes) (eqb c 93) refl none
+  where
+    by : (list_any (λ b. eqb b 93) bytes ≡ false → has close bytes ≡ false) → (b : Bool) → eqb c 93 ≡ b → (b || list_any (λ b. eqb b 93) bytes) ≡ false → (begins_with close (c ∷ bytes) || has close bytes) ≡ false
+    by on true e f = absurd (false≢true (sym f))
+    by on false e f = ap (λ b. (b && begins_with (codes "]>") bytes) || has close bytes) e ∙ on f

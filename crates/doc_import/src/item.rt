@@ -1,11 +1,14 @@
 // The pieces of a text.
-ghost use Rattle.std.specs.Prelude.{◌≡◌, ◌<◌, ◌≤◌, length, true, codes};
+ghost use Rattle.std.specs.Prelude.{◌≡◌, ◌≤◌, length, take, true, codes};
 ghost use Rattle.std.specs.List.{prefix_len, list_all};
 ghost use Rattle.std.specs.Option.{option_map};
 ghost use Rattle.tree_model.specs.Chars as chars;
 ghost use Rattle.doc_import.specs.Readers.{word_of, until_len};
 ghost use Rattle.doc_import.specs.Item as read;
 ghost use Rattle.doc_import.specs.View.{view, two, where_of};
+
+/// How many bytes of character data are tested at once.
+const BLOCK: usize = 32;
 
 /// A piece, by the parts of it that lie in the text.
 #[derive(Clone, Copy)]
@@ -50,8 +53,8 @@ fn is_name_char(byte: u8) -> bool
 fn in_text(byte: u8) -> bool
     ensures { result ≡ chars.in_text byte }
 {
-    (byte == b'\t' || byte == b'\n' || (byte >= 32 && byte <= 127))
-        && !(byte == b'<' || byte == b'&')
+    ((byte == b'\t') | (byte == b'\n') | ((byte >= 32) & (byte <= 127)))
+        & !((byte == b'<') | (byte == b'&'))
 }
 
 fn name_len(bytes: &[u8]) -> usize
@@ -76,11 +79,35 @@ fn blank_len(bytes: &[u8]) -> usize
     len
 }
 
+// Whether each byte is character data. None is skipped, so that the compiler tests many at once.
+fn all_text(bytes: &[u8]) -> bool
+    ensures { result ≡ list_all chars.in_text bytes.now }
+{
+    let mut all = true;
+    for byte in bytes {
+        all &= in_text(*byte);
+    }
+    all
+}
+
+// The length of a front of character data, in whole blocks.
+fn blocks_len(bytes: &[u8]) -> usize
+    ensures text { list_all chars.in_text (take result bytes.now) ≡ true }
+    ensures within { result ≤ length bytes.now }
+{
+    let mut len = 0;
+    while bytes.len() - len >= BLOCK && all_text(&bytes[len..len + BLOCK]) {
+        len += BLOCK;
+    }
+    len
+}
+
+#[tactic(auto, using(crate::proofs::Blocks::behind_blocks))]
 fn text_len(bytes: &[u8]) -> usize
     ensures len { result ≡ prefix_len chars.in_text bytes.now }
     ensures within { result ≤ length bytes.now }
 {
-    let mut len = 0;
+    let mut len = blocks_len(bytes);
     while len < bytes.len() && in_text(bytes[len]) {
         len += 1;
     }
@@ -133,11 +160,11 @@ fn close_len(bytes: &[u8]) -> usize
     len
 }
 
-#[tactic(auto, using(crate::proofs::Words::has_close_is))]
+#[tactic(auto, using(crate::proofs::Words::has_close_is, crate::proofs::Words::no_bracket))]
 fn has_close(bytes: &[u8]) -> bool
     ensures { result ≡ chars.has (codes "]]>") bytes.now }
 {
-    starts_close(bytes.split_at(close_len(bytes)).1)
+    bytes.contains(&b']') && starts_close(bytes.split_at(close_len(bytes)).1)
 }
 
 // The name at the front, and what follows it.

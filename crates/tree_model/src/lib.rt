@@ -10,3 +10,6 @@ pub use code::{Code, Refusal, code_text};
 pub use laws::equal_flattenings;
 pub use row::{Kind, Row, ValueRef};
 pub use text::{Name, NoMemory, Text};
+
+#[cfg(test)]
+mod tests;

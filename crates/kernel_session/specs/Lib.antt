@@ -1,0 +1,9 @@
+-- Lines of a script, the commands in them, and the replies.
+pub mod Lines
+pub mod Commands
+pub mod CommandView
+pub mod Replies
+pub mod ReplyView
+pub mod Steps
+pub mod Sessions
+pub mod PrintView

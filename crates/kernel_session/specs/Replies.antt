@@ -1,0 +1,43 @@
+-- The text of a reply, and what a write leaves of it.
+use Rattle.std.specs.Prelude.{◌≡◌, ℕ, ◌≤◌, List, [], ◌∷◌, ◌++◌, length, codes, Option, Some, None, Result, OnOk, OnErr}
+use Rattle.std.specs.Fmt.{decimal}
+use Rattle.std.specs.Io.KnownBytes.{append_known}
+use Rattle.outer_io.specs.Outer.{Rose}
+use Rattle.tree_model.specs.CodeTexts.{text_of_code}
+use Rattle.tree_model.specs.declared.code.Refusal.{Refusal}
+use Rattle.tree_model.specs.declared.code.Refusal.TheVariants as refusal
+use Rattle.kernel_session.specs.declared.reply.WriteFailed.{WriteFailed}
+
+pub data Answer : Type 0 where
+  accepted : (payload : List ℕ) → Answer
+  refused : (code : List ℕ) → Answer
+
+abbrev pub refusal_text : Refusal → List ℕ
+refusal_text (refusal.Code code) = text_of_code code
+refusal_text refusal.NoMemory = codes "XKMEM"
+
+-- the line before a payload of so many bytes
+unfoldable pub head_of : ℕ → List ℕ
+head_of n = codes "ok " ++ decimal n ++ 10 ∷ []
+
+abbrev pub text_of : Answer → List ℕ
+text_of (accepted payload) = head_of (length payload) ++ (payload ++ 10 ∷ [])
+text_of (refused code) = codes "err " ++ code ++ 10 ∷ []
+
+-- a skipped line has no answer
+abbrev pub text_if : Option Answer → List ℕ
+text_if None = []
+text_if (Some answer) = text_of answer
+
+-- a front of the text was written
+pub record WrotePart (old new : Option (List ℕ)) (text : List ℕ) : Type 0 where
+  pub front : List ℕ
+  pub rest : List ℕ
+  pub whole : text ≡ front ++ rest
+  pub written : new ≡ append_known old front
+
+-- all of the text was written, or a write failed and a front of it was
+pub record HasWritten (old new : Option (List ℕ)) (before now : ℕ) (text : List ℕ) (r : Result (Unit {0}) WriteFailed) : Type 0 where
+  pub later : before ≤ now
+  pub ok : OnOk r (new ≡ append_known old text)
+  pub err : OnErr r (Rose before now × WrotePart old new text)

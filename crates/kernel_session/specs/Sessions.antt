@@ -1,0 +1,93 @@
+-- A whole session: the lines of its script, and the text of the replies to them.
+use Rattle.std.specs.Prelude.{◌≡◌, ℕ, ◌+◌, ◌^◌, ◌≤◌, Bool, ◌||◌, true, false, List, [], ◌∷◌, ◌++◌, length, Option, Some, None, Result, IfOk, OnErr, if◌then◌else◌}
+use Rattle.std.specs.List.{flat_map, list_any}
+use Rattle.std.specs.Io.KnownBytes.{prepend_known, append_known, IsAtEnd}
+use Rattle.outer_io.specs.Outer.{Rose}
+use Rattle.tree_model.specs.States.{State}
+use Rattle.kernel_session.specs.declared.command.Options.{Options}
+use Rattle.kernel_session.specs.declared.reply.WriteFailed.{WriteFailed}
+use Rattle.kernel_session.specs.declared.session.Status.{Status}
+use Rattle.kernel_session.specs.declared.session.Status.TheVariants.{Done, BadWords, ReadFault, WriteFault, NoMemory, TooManyBytes}
+use Rattle.kernel_session.specs.Lines.{IsOneLine, IsKept}
+use Rattle.kernel_session.specs.Replies.{Answer, accepted, refused, text_if, WrotePart}
+use Rattle.kernel_session.specs.Steps.{IsAnswered, Right}
+
+-- no word is taken yet, so none is set
+abbrev pub no_options : Options
+no_options = record { plain = false; strip = false }
+
+-- the bytes of lines that end by LF, and the condition that each is one line
+abbrev pub joined : List (List ℕ) → List ℕ
+joined lines = flat_map (λ l. l ++ 10 ∷ []) lines
+
+abbrev pub AreLines : List (List ℕ) → Type 0
+AreLines [] = Unit {0}
+AreLines (l ∷ lines) = IsOneLine l × AreLines lines
+
+abbrev pub texts : List (Option Answer) → List ℕ
+texts answers = flat_map text_if answers
+
+abbrev pub is_refusal : Option Answer → Bool
+is_refusal None = false
+is_refusal (Some (accepted payload)) = false
+is_refusal (Some (refused code)) = true
+
+abbrev pub has_refusal : List (Option Answer) → Bool
+has_refusal answers = list_any is_refusal answers
+
+-- the lines were answered rightly from one state to the other, and the text of the answers was appended
+pub record HasReplied (state state' : State) (lines : List (List ℕ)) (old new : Option (List ℕ)) : Type 0 where
+  pub answers : List (Option Answer)
+  pub right : Right no_options state lines answers state'
+  pub written : new ≡ append_known old (texts answers)
+
+-- how a session ends, after these lines that end by LF were taken, and what follows them
+abbrev pub Ends : State → State → Option (List ℕ) → ℕ → ℕ → ℕ → ℕ → List (List ℕ) → List ℕ → Option (List ℕ) → Option (List ℕ) → Status → Type 0
+-- at the end of the script: what stands after the last LF is a line too
+Ends state state' left reads reads' writes writes' lines rest old new (Done any) =
+    IsAtEnd left × IsOneLine rest × (replied : HasReplied state state' (lines ++ rest ∷ []) old new) × (any ≡ has_refusal replied.answers)
+-- the words are refused, and nothing is read or written
+Ends state state' left reads reads' writes writes' lines rest old new BadWords = (lines ≡ []) × (rest ≡ []) × (new ≡ old) × (state' ≡ state) × (reads' ≡ reads) × (writes' ≡ writes)
+Ends state state' left reads reads' writes writes' lines rest old new ReadFault = Rose reads reads' × IsOneLine rest × HasReplied state state' lines old new
+Ends state state' left reads reads' writes writes' lines rest old new TooManyBytes = (length (joined lines ++ rest) ≡ 2 ^ 32) × IsOneLine rest × HasReplied state state' lines old new
+Ends state state' left reads reads' writes writes' lines rest old new NoMemory = HasReplied state state' lines old new
+-- what follows begins with the line whose reply met the fault
+Ends state state' left reads reads' writes writes' lines rest old new WriteFault =
+    Rose writes writes' × (l more : List ℕ) × (rest ≡ l ++ more) × IsOneLine l × (mid : Option (List ℕ)) × (state'' : State) × HasReplied state state'' lines old mid
+    × (last : Option Answer) × IsAnswered no_options state'' l last state' × WrotePart mid new (text_if last)
+
+-- the bytes that were taken are these lines, and what follows them
+pub record Ran (state state' : State) (left left' : Option (List ℕ)) (reads reads' : ℕ) (old new : Option (List ℕ)) (writes writes' : ℕ) (status : Status) : Type 0 where
+  pub lines : List (List ℕ)
+  pub rest : List ℕ
+  pub each : AreLines lines
+  pub taken : left ≡ prepend_known (joined lines ++ rest) left'
+  pub ended : Ends state state' left' reads reads' writes writes' lines rest old new status
+
+-- the session so far
+pub record HasServed (state state' : State) (left stream : Option (List ℕ)) (reads reads' room : ℕ) (old new : Option (List ℕ)) (writes writes' : ℕ) (refused : Bool) : Type 0 where
+  pub lines : List (List ℕ)
+  pub each : AreLines lines
+  pub taken : left ≡ prepend_known (joined lines) stream
+  pub counted : room + length (joined lines) ≡ 2 ^ 32
+  pub replied : HasReplied state state' lines old new
+  pub refusal : refused ≡ has_refusal replied.answers
+  pub reads_later : reads ≤ reads'
+  pub writes_later : writes ≤ writes'
+
+-- a line was answered, and whether one was refused so far; or a write failed
+pub record HasAnswered (state state' : State) (line : List ℕ) (is_long refused : Bool) (old new : Option (List ℕ)) (before now : ℕ) (r : Result Bool WriteFailed) : Type 0 where
+  pub answer : Option Answer
+  pub is : (l : List ℕ) → IsKept l line is_long → IsAnswered no_options state l answer state'
+  pub later : before ≤ now
+  pub ok : IfOk r (λ any. (new ≡ append_known old (text_if answer)) × (any ≡ (refused || is_refusal answer)))
+  pub err : OnErr r (Rose before now × WrotePart old new (text_if answer))
+
+-- the status of the program
+abbrev pub number_of : Status → ℕ
+number_of (Done any) = if any then 1 else 0
+number_of BadWords = 2
+number_of ReadFault = 3
+number_of WriteFault = 4
+number_of NoMemory = 5
+number_of TooManyBytes = 6

@@ -1,0 +1,18 @@
+//! A session: a script of commands in, a reply to each out.
+#![tactic(auto)]
+
+mod blanks;
+mod command;
+mod kernel;
+mod lines;
+mod reply;
+mod session;
+mod table;
+
+pub use command::{Command, Options, XmlText, read_command};
+pub use kernel::Kernel;
+pub use reply::Reply;
+pub use session::{Status, one_cut, run};
+
+#[cfg(test)]
+mod tests;

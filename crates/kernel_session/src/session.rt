@@ -1,0 +1,189 @@
+// A session from the first byte in to the last byte out.
+ghost use Rattle.std.specs.Prelude.{◌≡◌, ◌≢◌, ◌⊎◌, ◌↔◌, ◌^◌, ◌<◌, ◌≤◌, ◌||◌, ◌++◌, ℕ, false, List, Option, Some, length, vec_len};
+ghost use Rattle.std.specs.Option.{option_map};
+ghost use Rattle.outer_io.specs.Outer.{Rose};
+ghost use Rattle.kernel_session.specs.Lines.{IsKept, IsOneLine};
+ghost use Rattle.kernel_session.specs.Steps.{IsAnswered, IsLineAnswer};
+ghost use Rattle.kernel_session.specs.Replies.{HasWritten, text_if};
+ghost use Rattle.kernel_session.specs.ReplyView.{answer_of};
+ghost use Rattle.kernel_session.specs.Sessions.{Ran, HasAnswered, is_refusal, number_of, AreLines, joined};
+
+use crate::blanks::{trimmed, without_return};
+use crate::command::{Options, read_command};
+use crate::kernel::Kernel;
+use crate::lines::{LineEnd, LineReader};
+use crate::reply::{Reply, WriteFailed, write_reply};
+use outer_io::{Sink, Source};
+use std::alloc::Global;
+use tree_model::{Code, Refusal};
+
+/// How a session ended, and the status of the program.
+#[derive(Clone, Copy, Debug, PartialEq, Eq)]
+pub enum Status {
+    /// The script was served to its end: 1 where a reply was a refusal, else 0.
+    Done(bool),
+    /// There are words that aren't known: 2.
+    BadWords,
+    /// A read failed: 3.
+    ReadFault,
+    /// A write failed: 4.
+    WriteFault,
+    /// There was no memory to read a line: 5.
+    NoMemory,
+    /// 2^32 bytes were read, and no end was met: 6.
+    TooManyBytes,
+}
+
+// What is answered to a line that isn't too long and isn't skipped.
+fn reply_to(alloc: Global, line: &[u8], kernel: &mut Kernel, options: Options) -> Reply
+    requires { length line.now ≤ 2 ^ 24 }
+    ensures { IsLineAnswer options kernel.old line.now (answer_of result) kernel.new }
+{
+    match read_command(line) {
+        Ok(command) => kernel.execute(alloc, &command, options),
+        Err(refusal) => Reply::Err(refusal),
+    }
+}
+
+// What is answered to a line, if it isn't skipped.
+fn reply_if(
+    alloc: Global,
+    line: &[u8],
+    is_long: bool,
+    kernel: &mut Kernel,
+    options: Options,
+) -> Option<Reply>
+    requires { is_long ≡ false → length line.now ≤ 2 ^ 24 }
+    ensures { (l : List ℕ) → IsKept l line.now is_long → IsAnswered options kernel.old l (option_map answer_of result) kernel.new }
+{
+    if is_long {
+        return Some(Reply::Err(Refusal::Code(Code::XKLM0001)));
+    }
+    let line = without_return(line);
+    if trimmed(line).is_empty() {
+        return None;
+    }
+    Some(reply_to(alloc, line, kernel, options))
+}
+
+fn is_refused(reply: &Option<Reply>) -> bool
+    ensures { result ≡ is_refusal (option_map answer_of reply.now) }
+{
+    matches!(reply, Some(Reply::Err(_)))
+}
+
+fn write_if<K: Sink>(sink: &mut K, reply: &Option<Reply>) -> Result<(), WriteFailed>
+    ensures { HasWritten (K.written sink.old) (K.written sink.new) (K.faults sink.old) (K.faults sink.new) (text_if (option_map answer_of reply.now)) result }
+{
+    match reply {
+        Some(reply) => write_reply(sink, reply),
+        None => Ok(()),
+    }
+}
+
+fn either(a: bool, b: bool) -> bool
+    ensures { result ≡ (a || b) }
+{
+    a || b
+}
+
+// Answers a line: whether it or one before it was refused.
+fn serve<K: Sink>(
+    alloc: Global,
+    reader: &LineReader,
+    refused: bool,
+    sink: &mut K,
+    kernel: &mut Kernel,
+) -> Result<bool, WriteFailed>
+    requires { reader.now.is_long ≡ false → vec_len reader.now.line ≤ 2 ^ 24 }
+    ensures { HasAnswered kernel.old kernel.new reader.now.line.items reader.now.is_long refused (K.written sink.old) (K.written sink.new) (K.faults sink.old) (K.faults sink.new) result }
+{
+    let options = Options {
+        plain: false,
+        strip: false,
+    };
+    let reply = reply_if(alloc, &reader.line, reader.is_long, kernel, options);
+    match write_if(sink, &reply) {
+        Ok(()) => Ok(either(refused, is_refused(&reply))),
+        Err(e) => Err(e),
+    }
+}
+
+// Reads commands to the end of the source, and writes a reply to each before it reads on.
+fn serve_lines<S: Source, K: Sink>(
+    alloc: Global,
+    source: &mut S,
+    sink: &mut K,
+    kernel: &mut Kernel,
+) -> Status
+    ensures ran { Ran kernel.old kernel.new (S.left source.old) (S.left source.new) (S.faults source.old) (S.faults source.new)
+        (K.written sink.old) (K.written sink.new) (K.faults sink.old) (K.faults sink.new) result }
+    ensures words { result ≢ Status.BadWords }
+{
+    let Ok(mut reader) = LineReader::new(alloc) else {
+        return Status::NoMemory;
+    };
+    let mut refused = false;
+    'lines: loop {
+        let end = match reader.next(source) {
+            Ok(end) => end,
+            Err(_e) => return Status::NoMemory,
+        };
+        match end {
+            LineEnd::Failed => return Status::ReadFault,
+            LineEnd::Full => return Status::TooManyBytes,
+            LineEnd::EndOfScript => match serve(alloc, &reader, refused, sink, kernel) {
+                Ok(any) => return Status::Done(any),
+                Err(_e) => return Status::WriteFault,
+            },
+            LineEnd::Newline => match serve(alloc, &reader, refused, sink, kernel) {
+                Ok(any) => refused = any,
+                Err(_e) => return Status::WriteFault,
+            },
+        }
+    }
+}
+
+fn number_of(status: Status) -> u8
+    ensures { result ≡ number_of status }
+{
+    match status {
+        Status::Done(refused) => { if refused { 1 } else { 0 } }
+        Status::BadWords => 2,
+        Status::ReadFault => 3,
+        Status::WriteFault => 4,
+        Status::NoMemory => 5,
+        Status::TooManyBytes => 6,
+    }
+}
+
+/// Serves a script of commands, one a line, and answers the status of the program. Each reply is written before the next
+/// line is read. No word is known yet, so any word is refused before anything is read.
+pub fn run<S: Source, K: Sink>(
+    alloc: Global,
+    words: &[String],
+    source: &mut S,
+    sink: &mut K,
+    kernel: &mut Kernel,
+) -> u8
+    // By status: which lines were taken, what was answered to each, and what was appended.
+    ensures ran { (status : Status) × (result ≡ number_of status) × Ran kernel.old kernel.new (S.left source.old) (S.left source.new) (S.faults source.old) (S.faults source.new)
+        (K.written sink.old) (K.written sink.new) (K.faults sink.old) (K.faults sink.new) status }
+    ensures words { (result ≡ 2) ↔ (0 < length words.now) }
+    ensures read { result ≡ 3 → Rose (S.faults source.old) (S.faults source.new) }
+    ensures write { result ≡ 4 → Rose (K.faults sink.old) (K.faults sink.new) }
+    // Where nothing fails and the script is short enough, it is served to its end; only memory may be wanting.
+    ensures complete { length words.now ≡ 0 → (bytes : List ℕ) → S.left source.old ≡ Some bytes → length bytes < 2 ^ 32
+        → (Rose (S.faults source.old) (S.faults source.new) → ⊥) → (Rose (K.faults sink.old) (K.faults sink.new) → ⊥)
+        → (result ≡ 0) ⊎ (result ≡ 1) ⊎ (result ≡ 5) }
+{
+    if !words.is_empty() {
+        return number_of(Status::BadWords);
+    }
+    number_of(serve_lines(alloc, source, sink, kernel))
+}
+
+/// There is one way to cut bytes into lines.
+pub fn one_cut()
+    ensures { (ls ks : List (List ℕ)) (l k : List ℕ) → AreLines ls → AreLines ks → IsOneLine l → IsOneLine k → joined ls ++ l ≡ joined ks ++ k → (ls ≡ ks) × (l ≡ k) }
+{}

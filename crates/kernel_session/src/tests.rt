@@ -1,0 +1,110 @@
+use super::*;
+use outer_io::{MemSink, MemSource, ReadStep, Source};
+use std::test::Fail;
+
+// The status of a session with this script and no words, and what it writes, in pieces of so many bytes.
+fn session(rt: &HostRuntime, script: &[u8], piece: usize) -> Result<(u8, Vec<u8>), Fail> {
+    let words: Vec<String> = Vec::new(rt.alloc());
+    let mut source = MemSource::new(rt.alloc(), script, piece.max(1), &[])?;
+    let mut sink = MemSink::new(rt.alloc(), 1000, piece.max(1), &[])?;
+    let mut kernel = Kernel::new();
+    let status = run(rt.alloc(), &words, &mut source, &mut sink, &mut kernel);
+    Ok((status, sink.bytes().to_vec(rt.alloc())?))
+}
+
+// Whether a script is answered so, in pieces of one byte, of some bytes and as a whole.
+fn is_answered(rt: &HostRuntime, script: &[u8], output: &[u8], status: u8) -> Result<bool, Fail> {
+    for piece in [1, 7, 4096] {
+        let (got, written) = session(rt, script, piece)?;
+        if got != status || written.as_slice() != output {
+            return Ok(false);
+        }
+    }
+    Ok(true)
+}
+
+#[test]
+fn tables_are_answered(rt: HostRuntime) -> Result<(), Fail> {
+    assert!(rt; is_answered(&rt, b"", b"", 0)?);
+    assert!(rt;
+        is_answered(
+            &rt,
+            b"TABLE <a><b/>t</a>",
+            b"ok 70\n0 0 4 1 0 doc table\n1 1 3 1 1 elem a\n2 1 1 1 2 elem b\n3 2 1 1 3 text t\n",
+            0,
+        )?
+    );
+    assert!(rt;
+        is_answered(
+            &rt,
+            b" \t\r\n\n table   <a/> \r\n",
+            b"ok 36\n0 0 2 1 0 doc table\n1 1 1 1 1 elem a\n",
+            0,
+        )?
+    );
+    Ok(())
+}
+
+#[test]
+fn refusals_are_answered(rt: HostRuntime) -> Result<(), Fail> {
+    assert!(rt; is_answered(&rt, b"TABLE <a>\n", b"err XKXM0002\n", 1)?);
+    assert!(rt; is_answered(&rt, b"TABLE\n", b"err XKCM0001\n", 1)?);
+    assert!(rt; is_answered(&rt, b"TABLE f.xml\n", b"err XKCM0002\n", 1)?);
+    assert!(rt; is_answered(&rt, b"TABLE <a>&lt;</a>\n", b"err XKCM0002\n", 1)?);
+    assert!(rt; is_answered(&rt, b"XQUERY 1\n", b"err XKCM0002\n", 1)?);
+    assert!(rt; is_answered(&rt, b"FOO\n", b"err XKCM0001\n", 1)?);
+    assert!(rt; is_answered(&rt, b"TABLE <a>\xff</a>\n", b"err XKCM0001\n", 1)?);
+    Ok(())
+}
+
+#[test]
+fn line_of_too_many_bytes(rt: HostRuntime) -> Result<(), Fail> {
+    let mut script = vec![in rt.alloc(); b'x'; (1 << 24) + 1]?;
+    script.extend_from_slice(b"\nTABLE <a/>")?;
+    let (status, written) = session(&rt, &script, 1 << 16)?;
+    assert_eq!(rt; status, 1);
+    assert_eq!(rt;
+        written.as_slice(),
+        b"err XKLM0001\nok 36\n0 0 2 1 0 doc table\n1 1 1 1 1 elem a\n".as_slice()
+    );
+    Ok(())
+}
+
+#[test]
+fn write_that_fails(rt: HostRuntime) -> Result<(), Fail> {
+    let words: Vec<String> = Vec::new(rt.alloc());
+    let mut source = MemSource::new(rt.alloc(), b"TABLE <a/>\nTABLE <a/>\n", 4096, &[])?;
+    let mut sink = MemSink::new(rt.alloc(), 1000, 5, &[2])?;
+    let mut kernel = Kernel::new();
+    let status = run(rt.alloc(), &words, &mut source, &mut sink, &mut kernel);
+    assert_eq!(rt; status, 4);
+    assert_eq!(rt; sink.bytes(), b"ok 36".as_slice());
+    Ok(())
+}
+
+#[test]
+fn read_that_fails(rt: HostRuntime) -> Result<(), Fail> {
+    let words: Vec<String> = Vec::new(rt.alloc());
+    let mut source = MemSource::new(rt.alloc(), b"TABLE <a/>\n", 4096, &[1])?;
+    let mut sink = MemSink::new(rt.alloc(), 1000, 4096, &[])?;
+    let mut kernel = Kernel::new();
+    let status = run(rt.alloc(), &words, &mut source, &mut sink, &mut kernel);
+    assert_eq!(rt; status, 3);
+    assert_eq!(rt; sink.bytes(), b"".as_slice());
+    Ok(())
+}
+
+#[test]
+fn words_are_refused(rt: HostRuntime) -> Result<(), Fail> {
+    let mut words: Vec<String> = Vec::new(rt.alloc());
+    words.push(String::from_str(rt.alloc(), "--plain")?)?;
+    let mut source = MemSource::new(rt.alloc(), b"TABLE <a/>\n", 4096, &[])?;
+    let mut sink = MemSink::new(rt.alloc(), 1000, 4096, &[])?;
+    let mut kernel = Kernel::new();
+    let status = run(rt.alloc(), &words, &mut source, &mut sink, &mut kernel);
+    assert_eq!(rt; status, 2);
+    assert_eq!(rt; sink.bytes(), b"".as_slice());
+    let mut buffer = [0u8; 4];
+    assert_eq!(rt; source.read(&mut buffer), ReadStep::Got(4));
+    Ok(())
+}
