@@ -8,3 +8,6 @@ mod item;
 mod reading;
 
 pub use reading::{Built, ImportFault, import, one_tree};
+
+#[cfg(test)]
+mod tests;

@@ -9,6 +9,8 @@ pub mod Good
 pub mod Meaning
 pub mod Reads
 pub mod Printed
+pub mod Sound
+pub mod ReadsSound
 pub mod States
 pub mod Codes
 pub mod CodeTexts

@@ -1,8 +1,14 @@
 // Laws of the definitions, each as the contract of a function that does nothing.
 ghost use Rattle.tree_model.specs.Forest.{IsOneToOne};
 ghost use Rattle.tree_model.specs.Labels.{Label};
+ghost use Rattle.tree_model.specs.ReadsSound.{ReadsSound};
 
 /// Two lists of trees with equal flattenings are equal, so that rows stand for at most one forest.
 pub fn equal_flattenings()
     ensures { IsOneToOne Label }
+{}
+
+/// A tree that is read, under any path, keeps all rules of a database's documents but the limit on the number of nodes.
+pub fn read_trees_are_sound()
+    ensures { ReadsSound }
 {}
