@@ -12,7 +12,7 @@ no_newline (d ∷ l) [] rest one is = let same : d ≡ 10 = cc in All-head (λ c
 no_newline (d ∷ l) (c ∷ k) rest one is = let same : l ≡ k ++ 10 ∷ rest = cc in no_newline l k rest (All-tail (λ c. c ≢ 10) d l one) same
 
 -- two lines before their newlines
-apart : (l k rest more : List ℕ) → IsOneLine l → IsOneLine k → l ++ 10 ∷ rest ≡ k ++ 10 ∷ more → (l ≡ k) × (rest ≡ more)
+pub apart : (l k rest more : List ℕ) → IsOneLine l → IsOneLine k → l ++ 10 ∷ rest ≡ k ++ 10 ∷ more → (l ≡ k) × (rest ≡ more)
 apart [] [] rest more one other is = let same : rest ≡ more = cc in (refl, same)
 apart [] (c ∷ k) rest more one other is = let same : c ≡ 10 = cc in absurd (All-head (λ c. c ≢ 10) c k other same)
 apart (d ∷ l) [] rest more one other is = let same : d ≡ 10 = cc in absurd (All-head (λ c. c ≢ 10) d l one same)
@@ -22,7 +22,7 @@ apart (d ∷ l) (c ∷ k) rest more one other is =
     let both = apart l k rest more (All-tail (λ c. c ≢ 10) d l one) (All-tail (λ c. c ≢ 10) c k other) tail in
     (ap (λ x. x ∷ l) head ∙ ap (λ x. c ∷ x) both.0, both.1)
 
-whole : (l more rest : List ℕ) → ((l ++ 10 ∷ []) ++ more) ++ rest ≡ l ++ 10 ∷ (more ++ rest)
+pub whole : (l more rest : List ℕ) → ((l ++ 10 ∷ []) ++ more) ++ rest ≡ l ++ 10 ∷ (more ++ rest)
 whole l more rest = append_assoc (l ++ 10 ∷ []) more rest ∙ append_assoc l (10 ∷ []) (more ++ rest)
 
 pub one_cut : (ls ks : List (List ℕ)) (l k : List ℕ) → AreLines ls → AreLines ks → IsOneLine l → IsOneLine k → joined ls ++ l ≡ joined ks ++ k → (ls ≡ ks) × (l ≡ k)

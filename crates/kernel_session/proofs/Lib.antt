@@ -3,5 +3,8 @@ pub mod Streams
 pub mod Codes
 pub mod Sessions
 pub mod Cuts
-pub mod Tables
+pub mod Complete
 pub mod Words
+pub mod Paths
+pub mod Contents
+pub mod Bases

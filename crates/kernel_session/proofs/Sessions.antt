@@ -1,15 +1,18 @@
 -- A session goes on by a line, and ends.
-use Rattle.std.proofs.Common.{◌≡◌, ℕ, ◌^◌, Bool, true, false, ◌||◌, List, [], ◌∷◌, ◌++◌, length, Option, Ok, Err, refl, sym, ap, ◌∙◌, subst, arith, append_assoc, append-nil, length-append}
+use Rattle.std.proofs.Common.{◌≡◌, inl, inr, ℕ, ◌^◌, Bool, true, false, ◌||◌, List, [], ◌∷◌, ◌++◌, length, Option, Ok, Err, refl, sym, ap, ◌∙◌, subst, arith, append_assoc, append-nil, length-append}
 use Rattle.std.specs.Io.KnownBytes.{prepend_known, append_known, IsAtEnd}
 use Rattle.std.proofs.lemmas.List.Concat.{flat_map-append}
 use Rattle.std.proofs.lemmas.List.Folds.{list_any-append}
+use Rattle.std.specs.Bool.{Decides}
+use Rattle.std.proofs.lemmas.Bool.{false≢true}
 use Rattle.outer_io.specs.Outer.{Rose}
 use Rattle.kernel_session.specs.Lines.{IsOneLine, ReadsLine, ending}
 use Rattle.tree_model.specs.States.{State}
 use Rattle.kernel_session.specs.declared.command.Options.{Options}
-use Rattle.kernel_session.specs.Steps.{IsAnswered, Right}
+use Rattle.kernel_session.specs.Steps.{IsAnswered, IsExit, Right}
 use Rattle.kernel_session.specs.Replies.{Answer, text_if}
-use Rattle.kernel_session.specs.Sessions.{no_options, joined, AreLines, texts, is_refusal, has_refusal, HasReplied, Ran, HasServed, HasAnswered}
+use Rattle.kernel_session.specs.Sessions.{no_options, joined, AreLines, AllGoOn, texts, is_refusal, has_refusal, HasReplied, Ran, HasServed, HasAnswered}
+use Rattle.kernel_session.specs.declared.session.Served.{Served}
 use Rattle.kernel_session.specs.declared.reply.WriteFailed.{WriteFailed}
 use Rattle.kernel_session.specs.declared.lines.LineEnd.{LineEnd}
 use Rattle.kernel_session.specs.declared.lines.LineEnd.TheVariants.{Newline, EndOfScript}
@@ -20,6 +23,13 @@ use Rattle.kernel_session.proofs.Written.{append_nil, append_more}
 lines_more : (ls : List (List ℕ)) (l : List ℕ) → AreLines ls → IsOneLine l → AreLines (ls ++ l ∷ [])
 lines_more [] l h one = (one, tt)
 lines_more (k ∷ ls) l h one = (h.0, lines_more ls l h.1 one)
+
+all_go_on : (ls : List (List ℕ)) (l : List ℕ) → AllGoOn ls → (¬ IsExit l) → AllGoOn (ls ++ l ∷ [])
+all_go_on [] l h goes = (goes, tt)
+all_go_on (k ∷ ls) l h goes = (h.0, all_go_on ls l h.1 goes)
+
+goes_on : (ends : Bool) (l : List ℕ) → ends ≡ false → Decides ends (IsExit l) → (¬ IsExit l)
+goes_on ends l never d = λ h. false≢true (sym never ∙ d.1 h)
 
 right_more : (options : Options) (state mid state' : State) (ls : List (List ℕ)) (answers : List (Option Answer)) (l : List ℕ) (answer : Option Answer)
     → Right options state ls answers mid → IsAnswered options mid l answer state' → Right options state (ls ++ l ∷ []) (answers ++ answer ∷ []) state'
@@ -61,6 +71,7 @@ pub served_none : (state : State) (left : Option (List ℕ)) (old : Option (List
 served_none state left old reads writes room is = record {
   lines = [];
   each = tt;
+  go_on = tt;
   taken = sym (prepend_nil left) ∙ ap (prepend_known []) (sym (prepend_nil left));
   counted = omega arith;
   replied = record { answers = []; right = refl; written = sym (append_nil old) };
@@ -69,12 +80,13 @@ served_none state left old reads writes room is = record {
   writes_later = omega arith;
 }
 
-pub served_more : (state mid state' : State) (left stream stream' : Option (List ℕ)) (reads reads' reads'' room room' : ℕ) (old part new : Option (List ℕ)) (writes writes' writes'' : ℕ) (refused any : Bool) (line : List ℕ) (long : Bool)
-    → HasServed state mid left stream reads reads' room old part writes writes' refused → ReadsLine stream stream' reads' reads'' room room' line long Newline → HasAnswered mid state' line long refused part new writes' writes'' (Ok any)
-    → HasServed state state' left stream' reads reads'' room' old new writes writes'' any
-served_more state mid state' left stream stream' reads reads' reads'' room room' old part new writes writes' writes'' refused any line long h r w = record {
+pub served_more : (state mid state' : State) (left stream stream' : Option (List ℕ)) (reads reads' reads'' room room' : ℕ) (old part new : Option (List ℕ)) (writes writes' writes'' : ℕ) (refused : Bool) (served : Served) (line : List ℕ) (long : Bool)
+    → HasServed state mid left stream reads reads' room old part writes writes' refused → ReadsLine stream stream' reads' reads'' room room' line long Newline → HasAnswered mid state' line long refused part new writes' writes'' (Ok served)
+    → served.ends ≡ false → HasServed state state' left stream' reads reads'' room' old new writes writes'' served.refused
+served_more state mid state' left stream stream' reads reads' reads'' room room' old part new writes writes' writes'' refused served line long h r w never = record {
   lines = h.lines ++ r.l ∷ [];
   each = lines_more h.lines r.l h.each r.one_line;
+  go_on = all_go_on h.lines r.l h.go_on (goes_on served.ends r.l never (w.ok.2 r.l r.kept));
   taken = taken_more left stream stream' h.lines (r.l ++ 10 ∷ []) h.taken r.consumed ∙ ap (λ x. prepend_known x stream') (sym (joined_more h.lines r.l));
   counted = omega (arith, h.counted, r.counted, ap length (joined_more h.lines r.l), length-append (joined h.lines) (r.l ++ 10 ∷ []));
   replied = replied_more state mid state' h.lines r.l w.answer old part new h.replied (w.is r.l r.kept) w.ok.0;
@@ -96,6 +108,7 @@ no_memory state mid left stream left' reads reads' reads'' room old new writes w
   lines = h.lines;
   rest = bytes ++ pending;
   each = h.each;
+  go_on = h.go_on;
   taken = all_taken left stream left' h.lines bytes pending h.taken more;
   ended = h.replied;
 }
@@ -107,6 +120,7 @@ write_fault state mid state' left stream left' reads reads' reads'' room room' o
   lines = h.lines;
   rest = (r.l ++ ending end) ++ pending;
   each = h.each;
+  go_on = h.go_on;
   taken = all_taken left stream left' h.lines (r.l ++ ending end) pending h.taken r.consumed;
   ended = (raised, r.l, ending end ++ pending, append_assoc r.l (ending end) pending, r.one_line, part, mid, h.replied, w.answer, w.is r.l r.kept, w.err.1);
 }
@@ -120,18 +134,44 @@ taken_whole : (left stream left' : Option (List ℕ)) (ls : List (List ℕ)) (l 
 taken_whole left stream left' ls l pending so more none =
     all_taken left stream left' ls (l ++ []) pending so more ∙ ap (λ x. prepend_known (joined ls ++ x) left') (ap (λ x. (l ++ []) ++ x) none ∙ append-nil (l ++ []) ∙ append-nil l)
 
-pub done : (state mid state' : State) (left stream left' : Option (List ℕ)) (reads reads' reads'' room room' : ℕ) (old part new : Option (List ℕ)) (writes writes' writes'' : ℕ) (refused any : Bool) (line : List ℕ) (long : Bool) (pending : List ℕ)
-    → HasServed state mid left stream reads reads' room old part writes writes' refused → ReadsLine stream (prepend_known pending left') reads' reads'' room room' line long EndOfScript → pending ≡ [] → HasAnswered mid state' line long refused part new writes' writes'' (Ok any)
-    → Ran state state' left left' reads reads'' old new writes writes'' (Done any)
-done state mid state' left stream left' reads reads' reads'' room room' old part new writes writes' writes'' refused any line long pending h r none w = record {
+pub done : (state mid state' : State) (left stream left' : Option (List ℕ)) (reads reads' reads'' room room' : ℕ) (old part new : Option (List ℕ)) (writes writes' writes'' : ℕ) (refused : Bool) (served : Served) (line : List ℕ) (long : Bool) (pending : List ℕ)
+    → HasServed state mid left stream reads reads' room old part writes writes' refused → ReadsLine stream (prepend_known pending left') reads' reads'' room room' line long EndOfScript → pending ≡ [] → HasAnswered mid state' line long refused part new writes' writes'' (Ok served)
+    → Ran state state' left left' reads reads'' old new writes writes'' (Done served.refused)
+done state mid state' left stream left' reads reads' reads'' room room' old part new writes writes' writes'' refused served line long pending h r none w = record {
   lines = h.lines;
   rest = r.l;
   each = h.each;
+  go_on = h.go_on;
   taken = taken_whole left stream left' h.lines r.l pending h.taken r.consumed none;
-  ended = (
+  ended = inl (
     subst IsAtEnd (ap (λ x. prepend_known x left') none ∙ prepend_nil left') r.ended,
     r.one_line,
-    replied_more state mid state' h.lines r.l w.answer old part new h.replied (w.is r.l r.kept) w.ok.0,
-    w.ok.1 ∙ ap (λ x. x || is_refusal w.answer) h.refusal ∙ sym (refusal_more h.replied.answers w.answer),
+    (
+      replied_more state mid state' h.lines r.l w.answer old part new h.replied (w.is r.l r.kept) w.ok.0,
+      w.ok.1 ∙ ap (λ x. x || is_refusal w.answer) h.refusal ∙ sym (refusal_more h.replied.answers w.answer),
+    ),
+  );
+}
+
+-- a line that ends the session
+pub done_by_exit : (state mid state' : State) (left stream left' : Option (List ℕ)) (reads reads' reads'' room room' : ℕ) (old part new : Option (List ℕ)) (writes writes' writes'' : ℕ) (refused : Bool) (served : Served) (line : List ℕ) (long : Bool) (pending : List ℕ)
+    → HasServed state mid left stream reads reads' room old part writes writes' refused → ReadsLine stream (prepend_known pending left') reads' reads'' room room' line long Newline → HasAnswered mid state' line long refused part new writes' writes'' (Ok served)
+    → served.ends ≡ true → Ran state state' left left' reads reads'' old new writes writes'' (Done served.refused)
+done_by_exit state mid state' left stream left' reads reads' reads'' room room' old part new writes writes' writes'' refused served line long pending h r w last = record {
+  lines = h.lines;
+  rest = (r.l ++ 10 ∷ []) ++ pending;
+  each = h.each;
+  go_on = h.go_on;
+  taken = all_taken left stream left' h.lines (r.l ++ 10 ∷ []) pending h.taken r.consumed;
+  ended = inr (
+    r.l,
+    pending,
+    append_assoc r.l (10 ∷ []) pending,
+    r.one_line,
+    (w.ok.2 r.l r.kept).0 last,
+    (
+      replied_more state mid state' h.lines r.l w.answer old part new h.replied (w.is r.l r.kept) w.ok.0,
+      w.ok.1 ∙ ap (λ x. x || is_refusal w.answer) h.refusal ∙ sym (refusal_more h.replied.answers w.answer),
+    ),
   );
 }

@@ -1,10 +1,13 @@
--- The words of a line.
-use Rattle.std.proofs.Common.{◌≡◌, ℕ, Bool, true, false, cond, ◌==◌, ◌&&◌, nat_lt, List, [], ◌∷◌, length, Some, None, refl, sym, ap, arith}
+-- The words of a line, and the numbers among them.
+use Rattle.std.proofs.Common.{◌≡◌, ℕ, ◌^◌, ◌<◌, ◌≤◌, Bool, true, false, cond, ◌==◌, ◌&&◌, nat_le, nat_lt, List, [], ◌∷◌, length, Some, None, refl, sym, ap, arith}
 use borrow.Author.Tests.{ltb-false}
 use Rattle.std.proofs.lemmas.List.Sums.{prefix_len-le-length}
+use Rattle.std.proofs.lemmas.Bool.{leb-true}
+use Rattle.std.proofs.Math.Nat.{pow-le-pow_right}
 use Rattle.std.specs.List.{prefix_len, position, list_all, zip}
-use Rattle.std.specs.Char.{to_ascii_lowercase}
-use Rattle.kernel_session.specs.Commands.{is_blank, is_no_blank, is_word}
+use Rattle.std.specs.Char.{to_ascii_lowercase, is_ascii_digit}
+use Rattle.std.proofs.lemmas.Bool.{and_parts}
+use Rattle.kernel_session.specs.Commands.{is_blank, is_no_blank, is_word, is_number}
 
 -- a line with no blank is one word
 pub one_word : (line : List ℕ) → None ≡ position is_blank line → length line ≡ prefix_len is_no_blank line
@@ -20,3 +23,13 @@ letters_are_word [] [] e = refl
 letters_are_word (y ∷ word) [] e = cc
 letters_are_word [] (x ∷ bytes) e = cc
 letters_are_word (y ∷ word) (x ∷ bytes) e = ap (λ b. (to_ascii_lowercase x == y) && b) (letters_are_word word bytes (omega arith))
+
+-- a number has at most 9 digits
+pub number_len : (word : List ℕ) → is_number word ≡ true → length word ≤ 9
+number_len word h =
+    let len = and_parts (nat_le 1 (length word) && nat_le (length word) 9) (list_all is_ascii_digit word) h in
+    leb-true (length word) 9 (and_parts (nat_le 1 (length word)) (nat_le (length word) 9) len.0).1
+
+-- fewer digits than 9 leave room for one more
+pub room_for_digit : (n i : ℕ) → n < 10 ^ i → i < 9 → n < 100000000
+room_for_digit n i h few = omega (arith, pow-le-pow_right {n = 10} (omega arith) {i = i} {j = 8} (omega arith))

@@ -1,8 +1,9 @@
 -- The commands that lines hold.
-use Rattle.std.specs.Prelude.{◌≡◌, ℕ, ◌-◌, Bool, ◌==◌, ◌||◌, ◌&&◌, not, nat_le, map, if◌then◌else◌, List, [], ◌∷◌, length, take, drop, codes, slice_index}
+use Rattle.std.specs.Prelude.{◌≡◌, ℕ, ◌+◌, ◌*◌, ◌-◌, Bool, ◌==◌, ◌||◌, ◌&&◌, not, nat_le, map, if◌then◌else◌, List, [], ◌∷◌, length, take, drop, codes, slice_index, Option, Some, None}
 use Rattle.std.specs.List.{prefix_len, suffix_len, list_any, list_all}
 use Rattle.std.specs.Str.{bytes_eq}
-use Rattle.std.specs.Char.{to_ascii_lowercase}
+use Rattle.std.specs.Char.{to_ascii_lowercase, is_ascii_digit}
+use Rattle.tree_model.specs.Sound.{is_path}
 
 -- a space or a tab
 abbrev pub is_blank : ℕ → Bool
@@ -42,18 +43,18 @@ is_among words bytes = list_any (λ word. is_word word bytes) words
 -- the words with which the forms that aren't built yet begin
 abbrev pub later_words : List (List ℕ)
 later_words =
-    codes "check" ∷ codes "open" ∷ codes "close" ∷ codes "add" ∷ codes "delete" ∷ codes "replace" ∷ codes "rename" ∷ codes "xquery" ∷ codes "explain" ∷ codes "optimize" ∷ codes "list" ∷ codes "export" ∷ codes "exit" ∷ []
+    codes "check" ∷ codes "open" ∷ codes "close" ∷ codes "add" ∷ codes "delete" ∷ codes "replace" ∷ codes "rename" ∷ codes "xquery" ∷ codes "explain" ∷ codes "optimize" ∷ codes "export" ∷ []
 
-abbrev pub words_behind_create : List (List ℕ)
-words_behind_create = codes "db" ∷ codes "index" ∷ []
+abbrev pub words_behind_drop : List (List ℕ)
+words_behind_drop = codes "db" ∷ codes "index" ∷ []
 
 abbrev pub words_behind_info : List (List ℕ)
-words_behind_info = codes "db" ∷ codes "index" ∷ codes "storage" ∷ []
+words_behind_info = codes "db" ∷ codes "index" ∷ []
 
 -- a form that isn't built yet is known by its fixed words, whatever follows them
 abbrev pub is_later_form : List ℕ → List ℕ → Bool
 is_later_form first second =
-    is_among later_words first || (is_among (codes "create" ∷ codes "drop" ∷ []) first && is_among words_behind_create second) || (is_word (codes "info") first && is_among words_behind_info second)
+    is_among later_words first || (is_word (codes "create") first && is_word (codes "index") second) || (is_word (codes "drop") first && is_among words_behind_drop second) || (is_word (codes "info") first && is_among words_behind_info second)
 
 -- a word of at most 4096 bytes
 abbrev pub is_file_name : List ℕ → Bool
@@ -63,9 +64,30 @@ is_file_name input = nat_le (length input) 4096 && list_all is_no_blank input
 abbrev pub BeginsXml : List ℕ → Type 0
 BeginsXml bytes = slice_index bytes 0 ≡ 60
 
+-- the part of a file's name after the last /
+abbrev pub last_part : List ℕ → List ℕ
+last_part input = drop (length input - suffix_len (λ c. not (c == 47)) input) input
+
+-- a file whose name gives its document a path
+abbrev pub is_document_file : List ℕ → Bool
+is_document_file input = is_file_name input && is_path (last_part input)
+
+-- 1 to 9 decimal digits
+abbrev pub is_number : List ℕ → Bool
+is_number word = nat_le 1 (length word) && nat_le (length word) 9 && list_all is_ascii_digit word
+
+-- the number of decimal digits, of which the first ones are given as a number
+abbrev pub number_from : ℕ → List ℕ → ℕ
+number_from n [] = n
+number_from n (c ∷ word) = number_from (n * 10 + (c - 48)) word
+
 -- a command as it is read
 pub data Form : Type 0 where
   table : (xml : List ℕ) → Form
+  create : (name : List ℕ) → (xml : Option (List ℕ)) → Form
+  storage : (range : Option (ℕ × ℕ)) → Form
+  list : Form
+  exit : Form
   not_built : Form
   no_form : Form
 
@@ -74,7 +96,43 @@ abbrev pub input_form : List ℕ → Form
 input_form [] = no_form
 input_form (c ∷ input) = if c == 60 then table (c ∷ input) else if is_file_name (c ∷ input) then not_built else no_form
 
+-- CREATE DB with this name, and with nothing or an input behind it
+abbrev pub named_form : List ℕ → List ℕ → Form
+named_form name [] = create name None
+named_form name (c ∷ input) = if c == 60 then create name (Some (c ∷ input)) else if is_document_file (c ∷ input) then not_built else no_form
+
+-- what stands behind CREATE DB: a name, and perhaps an input
+abbrev pub create_form : List ℕ → Form
+create_form [] = no_form
+create_form (c ∷ words) = named_form (first_word (c ∷ words)) (behind_word (c ∷ words))
+
+-- what stands behind INFO STORAGE: nothing, or two numbers
+abbrev pub storage_form : List ℕ → Form
+storage_form [] = storage None
+storage_form (c ∷ words) = range_form (first_word (c ∷ words)) (behind_word (c ∷ words))
+  where
+    range_form : List ℕ → List ℕ → Form
+    range_form from to = if is_number from && is_number to then storage (Some (number_from 0 from, number_from 0 to)) else no_form
+
+-- LIST and a name isn't built yet
+abbrev pub list_form : List ℕ → Form
+list_form [] = list
+list_form (c ∷ words) = not_built
+
+abbrev pub exit_form : List ℕ → Form
+exit_form [] = exit
+exit_form (c ∷ words) = no_form
+
+-- a form of two fixed words, with what stands behind them
+abbrev pub two_word_form : List ℕ → List ℕ → List ℕ → Form
+two_word_form first second words =
+    if is_word (codes "create") first && is_word (codes "db") second then create_form words else if is_word (codes "info") first && is_word (codes "storage") second then storage_form words else if is_later_form first second then not_built else no_form
+
+-- a form by its first word, with what stands behind it
+abbrev pub form_by : List ℕ → List ℕ → Form
+form_by first words =
+    if is_word (codes "table") first then input_form words else if is_word (codes "list") first then list_form words else if is_word (codes "exit") first then exit_form words else two_word_form first (first_word words) (behind_word words)
+
 -- the form of a line without blanks at its ends
 abbrev pub form_of : List ℕ → Form
-form_of line =
-    if is_word (codes "table") (first_word line) then input_form (behind_word line) else if is_later_form (first_word line) (first_word (behind_word line)) then not_built else no_form
+form_of line = form_by (first_word line) (behind_word line)

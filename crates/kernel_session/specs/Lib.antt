@@ -6,4 +6,4 @@ pub mod Replies
 pub mod ReplyView
 pub mod Steps
 pub mod Sessions
-pub mod PrintView
+pub mod Databases

@@ -12,6 +12,11 @@ pub data Answer : Type 0 where
   accepted : (payload : List ℕ) → Answer
   refused : (code : List ℕ) → Answer
 
+-- a payload of this text, or want of memory
+abbrev pub IsText : List ℕ → Answer → Type 0
+IsText text (accepted payload) = payload ≡ text
+IsText text (refused code) = code ≡ codes "XKMEM"
+
 abbrev pub refusal_text : Refusal → List ℕ
 refusal_text (refusal.Code code) = text_of_code code
 refusal_text refusal.NoMemory = codes "XKMEM"

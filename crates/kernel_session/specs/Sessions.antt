@@ -1,16 +1,18 @@
 -- A whole session: the lines of its script, and the text of the replies to them.
-use Rattle.std.specs.Prelude.{◌≡◌, ℕ, ◌+◌, ◌^◌, ◌≤◌, Bool, ◌||◌, true, false, List, [], ◌∷◌, ◌++◌, length, Option, Some, None, Result, IfOk, OnErr, if◌then◌else◌}
+use Rattle.std.specs.Prelude.{◌≡◌, ◌⊎◌, ℕ, ◌+◌, ◌^◌, ◌<◌, ◌≤◌, Bool, ◌||◌, true, false, List, [], ◌∷◌, ◌++◌, length, Option, Some, None, Result, IfOk, OnErr, if◌then◌else◌}
 use Rattle.std.specs.List.{flat_map, list_any}
 use Rattle.std.specs.Io.KnownBytes.{prepend_known, append_known, IsAtEnd}
+use Rattle.std.specs.Bool.{Decides}
 use Rattle.outer_io.specs.Outer.{Rose}
 use Rattle.tree_model.specs.States.{State}
 use Rattle.kernel_session.specs.declared.command.Options.{Options}
 use Rattle.kernel_session.specs.declared.reply.WriteFailed.{WriteFailed}
+use Rattle.kernel_session.specs.declared.session.Served.{Served}
 use Rattle.kernel_session.specs.declared.session.Status.{Status}
 use Rattle.kernel_session.specs.declared.session.Status.TheVariants.{Done, BadWords, ReadFault, WriteFault, NoMemory, TooManyBytes}
 use Rattle.kernel_session.specs.Lines.{IsOneLine, IsKept}
 use Rattle.kernel_session.specs.Replies.{Answer, accepted, refused, text_if, WrotePart}
-use Rattle.kernel_session.specs.Steps.{IsAnswered, Right}
+use Rattle.kernel_session.specs.Steps.{IsAnswered, IsExit, Right}
 
 -- no word is taken yet, so none is set
 abbrev pub no_options : Options
@@ -23,6 +25,11 @@ joined lines = flat_map (λ l. l ++ 10 ∷ []) lines
 abbrev pub AreLines : List (List ℕ) → Type 0
 AreLines [] = Unit {0}
 AreLines (l ∷ lines) = IsOneLine l × AreLines lines
+
+-- none of them ends the session
+abbrev pub AllGoOn : List (List ℕ) → Type 0
+AllGoOn [] = Unit {0}
+AllGoOn (l ∷ lines) = (¬ IsExit l) × AllGoOn lines
 
 abbrev pub texts : List (Option Answer) → List ℕ
 texts answers = flat_map text_if answers
@@ -41,11 +48,16 @@ pub record HasReplied (state state' : State) (lines : List (List ℕ)) (old new 
   pub right : Right no_options state lines answers state'
   pub written : new ≡ append_known old (texts answers)
 
+-- the lines and a last one were answered, and whether one was refused
+abbrev pub HasDone : State → State → List (List ℕ) → List ℕ → Option (List ℕ) → Option (List ℕ) → Bool → Type 0
+HasDone state state' lines last old new any = (replied : HasReplied state state' (lines ++ last ∷ []) old new) × (any ≡ has_refusal replied.answers)
+
 -- how a session ends, after these lines that end by LF were taken, and what follows them
 abbrev pub Ends : State → State → Option (List ℕ) → ℕ → ℕ → ℕ → ℕ → List (List ℕ) → List ℕ → Option (List ℕ) → Option (List ℕ) → Status → Type 0
--- at the end of the script: what stands after the last LF is a line too
+-- at the end of the script, where what stands after the last LF is a line too; or at a line that ends the session, whatever follows its LF
 Ends state state' left reads reads' writes writes' lines rest old new (Done any) =
-    IsAtEnd left × IsOneLine rest × (replied : HasReplied state state' (lines ++ rest ∷ []) old new) × (any ≡ has_refusal replied.answers)
+    (IsAtEnd left × IsOneLine rest × HasDone state state' lines rest old new any)
+    ⊎ ((l more : List ℕ) × (rest ≡ l ++ 10 ∷ more) × IsOneLine l × IsExit l × HasDone state state' lines l old new any)
 -- the words are refused, and nothing is read or written
 Ends state state' left reads reads' writes writes' lines rest old new BadWords = (lines ≡ []) × (rest ≡ []) × (new ≡ old) × (state' ≡ state) × (reads' ≡ reads) × (writes' ≡ writes)
 Ends state state' left reads reads' writes writes' lines rest old new ReadFault = Rose reads reads' × IsOneLine rest × HasReplied state state' lines old new
@@ -61,13 +73,30 @@ pub record Ran (state state' : State) (left left' : Option (List ℕ)) (reads re
   pub lines : List (List ℕ)
   pub rest : List ℕ
   pub each : AreLines lines
+  pub go_on : AllGoOn lines
   pub taken : left ≡ prepend_known (joined lines ++ rest) left'
   pub ended : Ends state state' left' reads reads' writes writes' lines rest old new status
+
+-- the script reaches a line that ends the session, whose LF is among its first 2^32 bytes
+pub record ReachesExit (bytes : List ℕ) : Type 0 where
+  pub lines : List (List ℕ)
+  pub last : List ℕ
+  pub more : List ℕ
+  pub each : AreLines lines
+  pub one_line : IsOneLine last
+  pub ends : IsExit last
+  pub whole : bytes ≡ joined lines ++ (last ++ 10 ∷ more)
+  pub soon : length (joined lines ++ (last ++ 10 ∷ [])) ≤ 2 ^ 32
+
+-- the script has fewer than 2^32 bytes, or it reaches such a line
+abbrev pub IsShort : List ℕ → Type 0
+IsShort bytes = (length bytes < 2 ^ 32) ⊎ ReachesExit bytes
 
 -- the session so far
 pub record HasServed (state state' : State) (left stream : Option (List ℕ)) (reads reads' room : ℕ) (old new : Option (List ℕ)) (writes writes' : ℕ) (refused : Bool) : Type 0 where
   pub lines : List (List ℕ)
   pub each : AreLines lines
+  pub go_on : AllGoOn lines
   pub taken : left ≡ prepend_known (joined lines) stream
   pub counted : room + length (joined lines) ≡ 2 ^ 32
   pub replied : HasReplied state state' lines old new
@@ -76,11 +105,11 @@ pub record HasServed (state state' : State) (left stream : Option (List ℕ)) (r
   pub writes_later : writes ≤ writes'
 
 -- a line was answered, and whether one was refused so far; or a write failed
-pub record HasAnswered (state state' : State) (line : List ℕ) (is_long refused : Bool) (old new : Option (List ℕ)) (before now : ℕ) (r : Result Bool WriteFailed) : Type 0 where
+pub record HasAnswered (state state' : State) (line : List ℕ) (is_long refused : Bool) (old new : Option (List ℕ)) (before now : ℕ) (r : Result Served WriteFailed) : Type 0 where
   pub answer : Option Answer
   pub is : (l : List ℕ) → IsKept l line is_long → IsAnswered no_options state l answer state'
   pub later : before ≤ now
-  pub ok : IfOk r (λ any. (new ≡ append_known old (text_if answer)) × (any ≡ (refused || is_refusal answer)))
+  pub ok : IfOk r (λ served. (new ≡ append_known old (text_if answer)) × (served.refused ≡ (refused || is_refusal answer)) × ((l : List ℕ) → IsKept l line is_long → Decides served.ends (IsExit l)))
   pub err : OnErr r (Rose before now × WrotePart old new (text_if answer))
 
 -- the status of the program

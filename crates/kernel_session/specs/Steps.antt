@@ -2,13 +2,13 @@
 use Rattle.std.specs.Prelude.{◌≡◌, ◌≢◌, ◌⊎◌, ℕ, ◌^◌, ◌<◌, ◌≤◌, Bool, true, false, ◌==◌, ◌||◌, nat_lt, List, [], ◌∷◌, length, codes, Option, Some, None}
 use Rattle.std.specs.List.{list_any}
 use Rattle.std.specs.Str.{IsUtf8}
-use Rattle.tree_model.specs.Forest.{Forest}
+use Rattle.tree_model.specs.Forest.{Forest, none}
 use Rattle.tree_model.specs.Labels.{Label, with_path}
-use Rattle.tree_model.specs.Printed.{rows_text}
+use Rattle.tree_model.specs.Printed.{rows_text, storage_text, list_text}
 use Rattle.tree_model.specs.Reads.{Reads, read_as, too_long, malformed, too_many_rows}
-use Rattle.tree_model.specs.States.{State}
+use Rattle.tree_model.specs.States.{State, Base, is_base_name, default_path, new_base, with_new, IsOpened}
 use Rattle.kernel_session.specs.declared.command.Options.{Options}
-use Rattle.kernel_session.specs.Commands.{Form, table, not_built, no_form, form_of, trimmed, without_return}
+use Rattle.kernel_session.specs.Commands.{Form, table, create, storage, list, exit, not_built, no_form, form_of, trimmed, without_return}
 use Rattle.kernel_session.specs.CommandView.{IsNoCommand}
 use Rattle.kernel_session.specs.Replies.{Answer, accepted, refused}
 
@@ -24,23 +24,59 @@ abbrev pub IsFault : List ℕ → Bool → List ℕ → Type 0
 IsFault xml strip code =
     (Reads xml strip too_long × (code ≡ codes "XKLM0002")) ⊎ (Reads xml strip malformed × (code ≡ codes "XKXM0002")) ⊎ (Reads xml strip too_many_rows × (code ≡ codes "XKLM0003"))
 
--- TABLE: the rows of the document, under the path `table`
-abbrev pub IsTableAnswer : List ℕ → Bool → Answer → Type 0
-IsTableAnswer xml strip (accepted payload) =
-    (has_later_byte xml ≡ false) × (f : Forest Label) × Reads xml strip (read_as f) × (payload ≡ rows_text (with_path (codes "table") f))
-IsTableAnswer xml strip (refused code) =
-    ((has_later_byte xml ≡ true) × (code ≡ codes "XKCM0002")) ⊎ ((has_later_byte xml ≡ false) × IsFault xml strip code) ⊎ (code ≡ codes "XKMEM")
+-- what is given to read: XML text, or nothing
+abbrev pub has_later_input : Option (List ℕ) → Bool
+has_later_input None = false
+has_later_input (Some xml) = has_later_byte xml
 
--- what may be answered to a form
-abbrev pub IsFormAnswer : Options → Form → Answer → Type 0
-IsFormAnswer options (table xml) answer = IsTableAnswer xml options.strip answer
-IsFormAnswer options not_built answer = answer ≡ refused (codes "XKCM0002")
-IsFormAnswer options no_form answer = ⊥
+-- the documents that it gives, under a path
+abbrev pub IsContent : Bool → List ℕ → Option (List ℕ) → Forest Label → Type 0
+IsContent strip path None f = f ≡ none
+IsContent strip path (Some xml) f = (has_later_byte xml ≡ false) × (g : Forest Label) × Reads xml strip (read_as g) × (f ≡ with_path path g)
 
--- a command leaves the state as it was, whatever is answered: none that is built so far changes a database
-pub record Step (options : Options) (state : State) (form : Form) (answer : Answer) (state' : State) : Type 0 where
-  pub is : IsFormAnswer options form answer
-  pub same : state' ≡ state
+-- or the code of its first fault
+abbrev pub IsContentFault : Bool → Option (List ℕ) → List ℕ → Type 0
+IsContentFault strip None code = ⊥
+IsContentFault strip (Some xml) code = IsFault xml strip code
+
+-- what an accepted command gives, and the state that it leaves
+abbrev pub IsAccepted : Options → State → Form → List ℕ → State → Type 0
+-- the rows of the document, under the path `table`
+IsAccepted options state (table xml) payload state' = (f : Forest Label) × IsContent options.strip (codes "table") (Some xml) f × (payload ≡ rows_text f) × (state' ≡ state)
+IsAccepted options state (create name xml) payload state' =
+    (is_base_name name ≡ true) × (f : Forest Label) × IsContent options.strip (default_path name) xml f × (payload ≡ []) × (state' ≡ with_new (new_base name f) state)
+IsAccepted options state (storage range) payload state' = (base : Base) × IsOpened state base × (payload ≡ storage_text range base.documents) × (state' ≡ state)
+IsAccepted options state list payload state' = (payload ≡ list_text state.bases) × (state' ≡ state)
+IsAccepted options state exit payload state' = (payload ≡ []) × (state' ≡ state)
+IsAccepted options state not_built payload state' = ⊥
+IsAccepted options state no_form payload state' = ⊥
+
+-- why a command is refused: bytes of XML that aren't read yet, then the state, then what is read
+abbrev pub IsRefused : Options → State → Form → List ℕ → Type 0
+IsRefused options state (table xml) code = ((has_later_byte xml ≡ true) × (code ≡ codes "XKCM0002")) ⊎ ((has_later_byte xml ≡ false) × IsFault xml options.strip code)
+IsRefused options state (create name xml) code =
+    ((has_later_input xml ≡ true) × (code ≡ codes "XKCM0002")) ⊎ ((has_later_input xml ≡ false) × (is_base_name name ≡ false) × (code ≡ codes "XKDB0003"))
+    ⊎ ((has_later_input xml ≡ false) × (is_base_name name ≡ true) × IsContentFault options.strip xml code)
+IsRefused options state (storage range) code = (state.opened ≡ None) × (code ≡ codes "XKDB0001")
+IsRefused options state list code = ⊥
+IsRefused options state exit code = ⊥
+IsRefused options state not_built code = code ≡ codes "XKCM0002"
+IsRefused options state no_form code = ⊥
+
+-- the commands that take memory, for want of which they may be refused
+abbrev pub takes_memory : Form → Bool
+takes_memory (table xml) = true
+takes_memory (create name xml) = true
+takes_memory (storage range) = true
+takes_memory list = true
+takes_memory exit = false
+takes_memory not_built = false
+takes_memory no_form = false
+
+-- what may be answered to a command, and the state that it leaves: the same where it is refused
+abbrev pub Step : Options → State → Form → Answer → State → Type 0
+Step options state form (accepted payload) state' = IsAccepted options state form payload state'
+Step options state form (refused code) state' = (IsRefused options state form code ⊎ ((takes_memory form ≡ true) × (code ≡ codes "XKMEM"))) × (state' ≡ state)
 
 -- what is answered to a line of at most 2^24 bytes that isn't skipped
 abbrev pub IsLineAnswer : Options → State → List ℕ → Answer → State → Type 0
@@ -56,6 +92,13 @@ pub record IsAnswer (options : Options) (state : State) (l : List ℕ) (answer :
 abbrev pub IsAnswered : Options → State → List ℕ → Option Answer → State → Type 0
 IsAnswered options state l None state' = (length l ≤ 2 ^ 24) × (trimmed (without_return l) ≡ []) × (state' ≡ state)
 IsAnswered options state l (Some answer) state' = IsAnswer options state l answer state'
+
+-- the line that ends a session: none after it is served
+abbrev pub IsExitLine : List ℕ → Type 0
+IsExitLine line = IsUtf8 line × (form_of (trimmed line) ≡ exit)
+
+abbrev pub IsExit : List ℕ → Type 0
+IsExit l = (length l ≤ 2 ^ 24) × IsExitLine (without_return l)
 
 -- the answers to lines, one after the other: each begins with the state that the one before left
 abbrev pub Right : Options → State → List (List ℕ) → List (Option Answer) → State → Type 0

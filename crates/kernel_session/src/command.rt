@@ -1,17 +1,22 @@
 // Commands, as lines hold them.
-ghost use Rattle.std.specs.Prelude.{◌≡◌, ◌≤◌, ◌^◌, ◌==◌, length};
-ghost use Rattle.std.specs.List.{prefix_len, position, list_any, list_all, zip};
-ghost use Rattle.std.specs.Char.{to_ascii_lowercase};
+ghost use Rattle.std.specs.Prelude.{◌≡◌, ◌≤◌, ◌^◌, ◌==◌, true, not, length};
+ghost use Rattle.std.specs.List.{list_all};
+ghost use Rattle.tree_model.specs.Sound as sound;
 ghost use Rattle.kernel_session.specs.Commands as read;
 ghost use Rattle.kernel_session.specs.CommandView.{ReadsCommand, form_of_read};
 
-use crate::blanks::{behind_blanks, is_blank, trimmed};
+use crate::blanks::trimmed;
 use crate::lines::MAX_LINE;
+use crate::number::{Number, read_number};
+use crate::word::{has_no_blank, is_among, is_word, split_word};
 use std::marker::Model;
 use tree_model::{Code, Refusal};
 
 /// The most bytes of a file's name.
 const MAX_FILE_NAME: usize = 4096;
+
+// The most bytes of a document's path.
+const MAX_PATH: usize = 255;
 
 /// The XML text that a command was given: it begins with `<` and has at most 2^24 bytes.
 #[derive(Drop)]
@@ -53,6 +58,17 @@ impl<'a> XmlText<'a> {
 pub enum Command<'a> {
     /// `TABLE`: the rows of the document that the text spells.
     Table(XmlText<'a>),
+    /// `CREATE DB`: a new database with a name, as it was read, and one document or none.
+    CreateDb {
+        name: &'a [u8],
+        xml: Option<XmlText<'a>>,
+    },
+    /// `INFO STORAGE`: all rows of the open database, or those from the first pre up to and without the second.
+    InfoStorage(Option<(Number, Number)>),
+    /// `LIST`: a line for each database.
+    List,
+    /// `EXIT`: the end of the session.
+    Exit,
     /// A form that isn't built yet.
     NotBuilt,
 }
@@ -66,80 +82,65 @@ pub struct Options {
 }
 
 // The words with which the forms that aren't built yet begin.
-const LATER_WORDS: [&str; 13] = [
+const LATER_WORDS: [&str; 11] = [
     "check", "open", "close", "add", "delete", "replace", "rename", "xquery", "explain",
-    "optimize", "list", "export", "exit",
+    "optimize", "export",
 ];
-
-fn blank_in(line: &[u8]) -> Option<usize>
-    ensures { result ≡ position read.is_blank line.now }
-{
-    line.iter().position(|byte| is_blank(*byte))
-}
-
-#[tactic(auto, using(crate::proofs::Words::one_word))]
-fn word_len(line: &[u8]) -> usize
-    ensures value { result ≡ prefix_len read.is_no_blank line.now }
-    ensures within { result ≤ length line.now }
-{
-    match blank_in(line) {
-        Some(len) => len,
-        None => line.len(),
-    }
-}
-
-// The first word, and what stands behind it and its blanks.
-fn split_word(line: &[u8]) -> (&[u8], &[u8])
-    ensures word { result.0.now ≡ read.first_word line.now }
-    ensures behind { result.1.now ≡ read.behind_word line.now }
-    ensures len { length result.1.now ≤ length line.now }
-{
-    let (word, behind) = line.split_at(word_len(line));
-    (word, behind_blanks(behind))
-}
-
-// Whether the letters are those of the bytes in lower case, as far as both go.
-fn has_letters(bytes: &[u8], letters: &[u8]) -> bool
-    ensures { result ≡ list_all (λ p. to_ascii_lowercase p.0 == p.1) (zip bytes.now letters.now) }
-{
-    bytes
-        .iter()
-        .zip(letters)
-        .all(|(byte, letter)| byte.to_ascii_lowercase() == *letter)
-}
-
-// Whether the bytes are a word, which is given in lowercase letters.
-fn is_word(word: &str, bytes: &[u8]) -> bool
-    ensures { result ≡ read.is_word word.now bytes.now }
-{
-    bytes.len() == word.len() && has_letters(bytes, word.as_bytes())
-}
-
-fn is_among(words: &[&str], bytes: &[u8]) -> bool
-    ensures { result ≡ list_any (λ word. read.is_word word.now bytes.now) words.now }
-{
-    words.iter().any(|word| is_word(word, bytes))
-}
 
 // Whether the first two words of a line are those of a form that isn't built yet.
 fn is_later_form(first: &[u8], second: &[u8]) -> bool
     ensures { result ≡ read.is_later_form first.now second.now }
 {
     is_among(&LATER_WORDS, first)
-        || (is_among(&["create", "drop"], first) && is_among(&["db", "index"], second))
-        || (is_word("info", first) && is_among(&["db", "index", "storage"], second))
-}
-
-fn has_no_blank(bytes: &[u8]) -> bool
-    ensures { result ≡ list_all read.is_no_blank bytes.now }
-{
-    bytes.iter().all(|byte| !is_blank(*byte))
+        || (is_word("create", first) && is_word("index", second))
+        || (is_word("drop", first) && is_among(&["db", "index"], second))
+        || (is_word("info", first) && is_among(&["db", "index"], second))
 }
 
 fn is_file_name(input: &[u8]) -> bool
     ensures { result ≡ read.is_file_name input.now }
 {
     input.len() <= MAX_FILE_NAME && has_no_blank(input)
+}
+
+// The part of a file's name after the last `/`.
+fn last_part(input: &[u8]) -> &[u8]
+    ensures value { result.now ≡ read.last_part input.now }
+    ensures no_slash { list_all (λ c. not (c == 47)) result.now ≡ true }
+{
+    let mut start = input.len();
+    while start > 0 && input[start - 1] != b'/' {
+        start -= 1;
+    }
+    input.split_at(start).1
+}
+
+fn is_path_byte(byte: u8) -> bool
+    ensures { result ≡ sound.is_path_char byte }
+{
+    byte.is_ascii_alphanumeric() || byte == b'_' || byte == b'-' || byte == b'.' || byte == b'/'
+}
+
+fn has_path_bytes(bytes: &[u8]) -> bool
+    ensures { result ≡ list_all sound.is_path_char bytes.now }
+{
+    bytes.iter().all(|byte| is_path_byte(*byte))
+}
+
+// Whether a part without `/` is the path of a document.
+#[tactic(auto, using(crate::proofs::Paths::path_of_part))]
+fn is_path(part: &[u8]) -> bool
+    requires { list_all (λ c. not (c == 47)) part.now ≡ true }
+    ensures { result ≡ sound.is_path part.now }
+{
+    !part.is_empty() && part.len() <= MAX_PATH && has_path_bytes(part)
+}
+
+// Whether a file's name gives its document a path.
+fn is_document_file(input: &[u8]) -> bool
+    ensures { result ≡ read.is_document_file input.now }
+{
+    is_file_name(input) && is_path(last_part(input))
 }
 
 // The command TABLE with this input.
@@ -150,12 +151,62 @@ fn table_command(input: &[u8]) -> Option<Command<'_>>
     match input {
         [] => None,
         [b'<', ..] => Some(Command::Table(XmlText::new(input))),
-        _ => if is_file_name(input) {
-            Some(Command::NotBuilt)
-        } else {
-            None
-        },
+        _ => is_file_name(input).then_some(Command::NotBuilt),
     }
+}
+
+// The command CREATE DB with this name and this input.
+fn named_command<'a>(name: &'a [u8], input: &'a [u8]) -> Option<Command<'a>>
+    requires { length input.now ≤ 2 ^ 24 }
+    ensures { form_of_read result ≡ read.named_form name.now input.now }
+{
+    match input {
+        [] => Some(Command::CreateDb { name, xml: None }),
+        [b'<', ..] => Some(Command::CreateDb {
+            name,
+            xml: Some(XmlText::new(input)),
+        }),
+        _ => is_document_file(input).then_some(Command::NotBuilt),
+    }
+}
+
+// The command CREATE DB with these words behind it.
+fn create_command(words: &[u8]) -> Option<Command<'_>>
+    requires { length words.now ≤ 2 ^ 24 }
+    ensures { form_of_read result ≡ read.create_form words.now }
+{
+    if words.is_empty() {
+        return None;
+    }
+    let (name, input) = split_word(words);
+    named_command(name, input)
+}
+
+// The command INFO STORAGE with these words behind it.
+fn storage_command(words: &[u8]) -> Option<Command<'_>>
+    ensures { form_of_read result ≡ read.storage_form words.now }
+{
+    if words.is_empty() {
+        return Some(Command::InfoStorage(None));
+    }
+    let (from, to) = split_word(words);
+    let from = read_number(from)?;
+    let to = read_number(to)?;
+    Some(Command::InfoStorage(Some((from, to))))
+}
+
+// The command that begins with these two words, with what stands behind them.
+fn two_word_command<'a>(first: &[u8], second: &[u8], words: &'a [u8]) -> Option<Command<'a>>
+    requires { length words.now ≤ 2 ^ 24 }
+    ensures { form_of_read result ≡ read.two_word_form first.now second.now words.now }
+{
+    if is_word("create", first) && is_word("db", second) {
+        return create_command(words);
+    }
+    if is_word("info", first) && is_word("storage", second) {
+        return storage_command(words);
+    }
+    is_later_form(first, second).then_some(Command::NotBuilt)
 }
 
 // The command of a line without blanks at its ends.
@@ -167,12 +218,18 @@ fn command_of(line: &[u8]) -> Option<Command<'_>>
     if is_word("table", first) {
         return table_command(behind);
     }
-    let (second, _) = split_word(behind);
-    if is_later_form(first, second) {
-        Some(Command::NotBuilt)
-    } else {
-        None
+    if is_word("list", first) {
+        return Some(if behind.is_empty() {
+            Command::List
+        } else {
+            Command::NotBuilt
+        });
     }
+    if is_word("exit", first) {
+        return behind.is_empty().then_some(Command::Exit);
+    }
+    let (second, words) = split_word(behind);
+    two_word_command(first, second, words)
 }
 
 /// The command of a line that has no LF and no carriage return at its end. `XKLM0001` beyond 2^24 bytes; else `XKCM0001`

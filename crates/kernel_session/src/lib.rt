@@ -3,14 +3,19 @@
 
 mod blanks;
 mod command;
+mod content;
+mod create;
+mod database;
 mod kernel;
 mod lines;
+mod number;
 mod reply;
 mod session;
-mod table;
+mod word;
 
 pub use command::{Command, Options, XmlText, read_command};
 pub use kernel::Kernel;
+pub use number::Number;
 pub use reply::Reply;
 pub use session::{Status, one_cut, run};
 

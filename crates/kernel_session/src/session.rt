@@ -1,15 +1,18 @@
 // A session from the first byte in to the last byte out.
 ghost use Rattle.std.specs.Prelude.{◌≡◌, ◌≢◌, ◌⊎◌, ◌↔◌, ◌^◌, ◌<◌, ◌≤◌, ◌||◌, ◌++◌, ℕ, false, List, Option, Some, length, vec_len};
+ghost use Rattle.std.specs.Bool.{Decides};
 ghost use Rattle.std.specs.Option.{option_map};
 ghost use Rattle.outer_io.specs.Outer.{Rose};
 ghost use Rattle.kernel_session.specs.Lines.{IsKept, IsOneLine};
-ghost use Rattle.kernel_session.specs.Steps.{IsAnswered, IsLineAnswer};
+ghost use Rattle.kernel_session.specs.Commands.{exit};
+ghost use Rattle.kernel_session.specs.CommandView.{form_of_command};
+ghost use Rattle.kernel_session.specs.Steps.{IsAnswered, IsLineAnswer, IsExit, IsExitLine};
 ghost use Rattle.kernel_session.specs.Replies.{HasWritten, text_if};
 ghost use Rattle.kernel_session.specs.ReplyView.{answer_of};
-ghost use Rattle.kernel_session.specs.Sessions.{Ran, HasAnswered, is_refusal, number_of, AreLines, joined};
+ghost use Rattle.kernel_session.specs.Sessions.{Ran, HasAnswered, is_refusal, number_of, IsShort, AreLines, joined};
 
 use crate::blanks::{trimmed, without_return};
-use crate::command::{Options, read_command};
+use crate::command::{Command, Options, read_command};
 use crate::kernel::Kernel;
 use crate::lines::{LineEnd, LineReader};
 use crate::reply::{Reply, WriteFailed, write_reply};
@@ -20,7 +23,7 @@ use tree_model::{Code, Refusal};
 /// How a session ended, and the status of the program.
 #[derive(Clone, Copy, Debug, PartialEq, Eq)]
 pub enum Status {
-    /// The script was served to its end: 1 where a reply was a refusal, else 0.
+    /// The script was served to its end or to EXIT: 1 where a reply was a refusal, else 0.
     Done(bool),
     /// There are words that aren't known: 2.
     BadWords,
@@ -34,36 +37,49 @@ pub enum Status {
     TooManyBytes,
 }
 
-// What is answered to a line that isn't too long and isn't skipped.
-fn reply_to(alloc: Global, line: &[u8], kernel: &mut Kernel, options: Options) -> Reply
+// Whether a command ends the session.
+fn is_exit(command: &Command<'_>) -> bool
+    ensures { Decides result (form_of_command command.now ≡ exit) }
+{
+    matches!(command, Command::Exit)
+}
+
+// What is answered to a line that isn't too long and isn't skipped, and whether it ends the session.
+fn reply_to(alloc: Global, line: &[u8], kernel: &mut Kernel, options: Options) -> (Reply, bool)
     requires { length line.now ≤ 2 ^ 24 }
-    ensures { IsLineAnswer options kernel.old line.now (answer_of result) kernel.new }
+    ensures answer { IsLineAnswer options kernel.old line.now (answer_of result.0) kernel.new }
+    ensures ends { Decides result.1 (IsExitLine line.now) }
 {
     match read_command(line) {
-        Ok(command) => kernel.execute(alloc, &command, options),
-        Err(refusal) => Reply::Err(refusal),
+        Ok(command) => {
+            let ends = is_exit(&command);
+            (kernel.execute(alloc, &command, options), ends)
+        }
+        Err(refusal) => (Reply::Err(refusal), false),
     }
 }
 
-// What is answered to a line, if it isn't skipped.
+// What is answered to a line, if it isn't skipped, and whether it ends the session.
 fn reply_if(
     alloc: Global,
     line: &[u8],
     is_long: bool,
     kernel: &mut Kernel,
     options: Options,
-) -> Option<Reply>
+) -> (Option<Reply>, bool)
     requires { is_long ≡ false → length line.now ≤ 2 ^ 24 }
-    ensures { (l : List ℕ) → IsKept l line.now is_long → IsAnswered options kernel.old l (option_map answer_of result) kernel.new }
+    ensures answer { (l : List ℕ) → IsKept l line.now is_long → IsAnswered options kernel.old l (option_map answer_of result.0) kernel.new }
+    ensures ends { (l : List ℕ) → IsKept l line.now is_long → Decides result.1 (IsExit l) }
 {
     if is_long {
-        return Some(Reply::Err(Refusal::Code(Code::XKLM0001)));
+        return (Some(Reply::Err(Refusal::Code(Code::XKLM0001))), false);
     }
     let line = without_return(line);
     if trimmed(line).is_empty() {
-        return None;
+        return (None, false);
     }
-    Some(reply_to(alloc, line, kernel, options))
+    let (reply, ends) = reply_to(alloc, line, kernel, options);
+    (Some(reply), ends)
 }
 
 fn is_refused(reply: &Option<Reply>) -> bool
@@ -81,20 +97,27 @@ fn write_if<K: Sink>(sink: &mut K, reply: &Option<Reply>) -> Result<(), WriteFai
     }
 }
 
+// A session after a line was served: whether a line was refused so far, and whether the session ends.
+#[derive(Clone, Copy, Debug, PartialEq, Eq)]
+pub struct Served {
+    pub refused: bool,
+    pub ends: bool,
+}
+
 fn either(a: bool, b: bool) -> bool
     ensures { result ≡ (a || b) }
 {
     a || b
 }
 
-// Answers a line: whether it or one before it was refused.
+// Answers a line.
 fn serve<K: Sink>(
     alloc: Global,
     reader: &LineReader,
     refused: bool,
     sink: &mut K,
     kernel: &mut Kernel,
-) -> Result<bool, WriteFailed>
+) -> Result<Served, WriteFailed>
     requires { reader.now.is_long ≡ false → vec_len reader.now.line ≤ 2 ^ 24 }
     ensures { HasAnswered kernel.old kernel.new reader.now.line.items reader.now.is_long refused (K.written sink.old) (K.written sink.new) (K.faults sink.old) (K.faults sink.new) result }
 {
@@ -102,14 +125,17 @@ fn serve<K: Sink>(
         plain: false,
         strip: false,
     };
-    let reply = reply_if(alloc, &reader.line, reader.is_long, kernel, options);
+    let (reply, ends) = reply_if(alloc, &reader.line, reader.is_long, kernel, options);
     match write_if(sink, &reply) {
-        Ok(()) => Ok(either(refused, is_refused(&reply))),
+        Ok(()) => Ok(Served {
+            refused: either(refused, is_refused(&reply)),
+            ends,
+        }),
         Err(e) => Err(e),
     }
 }
 
-// Reads commands to the end of the source, and writes a reply to each before it reads on.
+// Reads commands to the end of the source or to EXIT, and writes a reply to each before it reads on.
 fn serve_lines<S: Source, K: Sink>(
     alloc: Global,
     source: &mut S,
@@ -133,11 +159,16 @@ fn serve_lines<S: Source, K: Sink>(
             LineEnd::Failed => return Status::ReadFault,
             LineEnd::Full => return Status::TooManyBytes,
             LineEnd::EndOfScript => match serve(alloc, &reader, refused, sink, kernel) {
-                Ok(any) => return Status::Done(any),
+                Ok(served) => return Status::Done(served.refused),
                 Err(_e) => return Status::WriteFault,
             },
             LineEnd::Newline => match serve(alloc, &reader, refused, sink, kernel) {
-                Ok(any) => refused = any,
+                Ok(served) => {
+                    if served.ends {
+                        return Status::Done(served.refused);
+                    }
+                    refused = served.refused;
+                }
                 Err(_e) => return Status::WriteFault,
             },
         }
@@ -157,7 +188,7 @@ fn number_of(status: Status) -> u8
     }
 }
 
-/// Serves a script of commands, one a line, and answers the status of the program. Each reply is written before the next
+/// Serves a script of commands, one a line, up to its end or to EXIT, and answers the status of the program. Each reply is written before the next
 /// line is read. No word is known yet, so any word is refused before anything is read.
 pub fn run<S: Source, K: Sink>(
     alloc: Global,
@@ -172,8 +203,8 @@ pub fn run<S: Source, K: Sink>(
     ensures words { (result ≡ 2) ↔ (0 < length words.now) }
     ensures read { result ≡ 3 → Rose (S.faults source.old) (S.faults source.new) }
     ensures write { result ≡ 4 → Rose (K.faults sink.old) (K.faults sink.new) }
-    // Where nothing fails and the script is short enough, it is served to its end; only memory may be wanting.
-    ensures complete { length words.now ≡ 0 → (bytes : List ℕ) → S.left source.old ≡ Some bytes → length bytes < 2 ^ 32
+    // Where nothing fails and the script is short enough, it is served to its end or to EXIT; only memory may be wanting.
+    ensures complete { length words.now ≡ 0 → (bytes : List ℕ) → S.left source.old ≡ Some bytes → IsShort bytes
         → (Rose (S.faults source.old) (S.faults source.new) → ⊥) → (Rose (K.faults sink.old) (K.faults sink.new) → ⊥)
         → (result ≡ 0) ⊎ (result ≡ 1) ⊎ (result ≡ 5) }
 {

@@ -7,7 +7,7 @@ fn session(rt: &HostRuntime, script: &[u8], piece: usize) -> Result<(u8, Vec<u8>
     let words: Vec<String> = Vec::new(rt.alloc());
     let mut source = MemSource::new(rt.alloc(), script, piece.max(1), &[])?;
     let mut sink = MemSink::new(rt.alloc(), 1000, piece.max(1), &[])?;
-    let mut kernel = Kernel::new();
+    let mut kernel = Kernel::new(rt.alloc());
     let status = run(rt.alloc(), &words, &mut source, &mut sink, &mut kernel);
     Ok((status, sink.bytes().to_vec(rt.alloc())?))
 }
@@ -58,6 +58,47 @@ fn refusals_are_answered(rt: HostRuntime) -> Result<(), Fail> {
 }
 
 #[test]
+fn one_database_is_answered(rt: HostRuntime) -> Result<(), Fail> {
+    assert!(rt;
+        is_answered(
+            &rt,
+            b"CREATE DB d <a><b>x</b><b/>y</a>\nLIST\nINFO STORAGE 1 2\nINFO STORAGE 4 999999999\nINFO STORAGE 3 3\nINFO STORAGE\nEXIT\nLIST\n",
+            b"ok 0\n\nok 5\nd 1 6\nok 16\n1 1 5 1 1 elem a\nok 33\n4 3 1 1 4 elem b\n5 4 1 1 5 text y\nok 0\n\nok 104\n0 0 6 1 0 doc d.xml\n1 1 5 1 1 elem a\n2 1 2 1 2 elem b\n3 1 1 1 3 text x\n4 3 1 1 4 elem b\n5 4 1 1 5 text y\nok 0\n\n",
+            0,
+        )?
+    );
+    assert!(rt; is_answered(&rt, b"EXIT", b"ok 0\n\n", 0)?);
+    assert!(rt; is_answered(&rt, b"FOO\nexit \r\nFOO\n", b"err XKCM0001\nok 0\n\n", 1)?);
+    Ok(())
+}
+
+#[test]
+fn databases_are_made_anew(rt: HostRuntime) -> Result<(), Fail> {
+    assert!(rt;
+        is_answered(
+            &rt,
+            b"LIST\nINFO STORAGE\nCREATE DB a\nCREATE DB b <x/>\nCREATE DB a <y/>\nLIST\nINFO STORAGE\n",
+            b"ok 0\n\nerr XKDB0001\nok 0\n\nok 0\n\nok 0\n\nok 11\nb 1 2\na 1 2\nok 36\n0 0 2 1 0 doc a.xml\n1 1 1 1 1 elem y\n",
+            1,
+        )?
+    );
+    Ok(())
+}
+
+#[test]
+fn refused_databases_change_nothing(rt: HostRuntime) -> Result<(), Fail> {
+    assert!(rt;
+        is_answered(
+            &rt,
+            b"CREATE DB a <y/>\nCREATE DB a <y>\nCREATE DB a.b <y>\nCREATE DB a.b <y>&lt;</y>\nCREATE DB a f.xml\nCREATE DB a f!\nCREATE DB <a/>\nCREATE DB\nINFO STORAGE 1\nLIST a\nEXIT x\nLIST\n",
+            b"ok 0\n\nerr XKXM0002\nerr XKDB0003\nerr XKCM0002\nerr XKCM0002\nerr XKCM0001\nerr XKDB0003\nerr XKCM0001\nerr XKCM0001\nerr XKCM0002\nerr XKCM0001\nok 5\na 1 2\n",
+            1,
+        )?
+    );
+    Ok(())
+}
+
+#[test]
 fn line_of_too_many_bytes(rt: HostRuntime) -> Result<(), Fail> {
     let mut script = vec![in rt.alloc(); b'x'; (1 << 24) + 1]?;
     script.extend_from_slice(b"\nTABLE <a/>")?;
@@ -75,7 +116,7 @@ fn write_that_fails(rt: HostRuntime) -> Result<(), Fail> {
     let words: Vec<String> = Vec::new(rt.alloc());
     let mut source = MemSource::new(rt.alloc(), b"TABLE <a/>\nTABLE <a/>\n", 4096, &[])?;
     let mut sink = MemSink::new(rt.alloc(), 1000, 5, &[2])?;
-    let mut kernel = Kernel::new();
+    let mut kernel = Kernel::new(rt.alloc());
     let status = run(rt.alloc(), &words, &mut source, &mut sink, &mut kernel);
     assert_eq!(rt; status, 4);
     assert_eq!(rt; sink.bytes(), b"ok 36".as_slice());
@@ -87,7 +128,7 @@ fn read_that_fails(rt: HostRuntime) -> Result<(), Fail> {
     let words: Vec<String> = Vec::new(rt.alloc());
     let mut source = MemSource::new(rt.alloc(), b"TABLE <a/>\n", 4096, &[1])?;
     let mut sink = MemSink::new(rt.alloc(), 1000, 4096, &[])?;
-    let mut kernel = Kernel::new();
+    let mut kernel = Kernel::new(rt.alloc());
     let status = run(rt.alloc(), &words, &mut source, &mut sink, &mut kernel);
     assert_eq!(rt; status, 3);
     assert_eq!(rt; sink.bytes(), b"".as_slice());
@@ -100,7 +141,7 @@ fn words_are_refused(rt: HostRuntime) -> Result<(), Fail> {
     words.push(String::from_str(rt.alloc(), "--plain")?)?;
     let mut source = MemSource::new(rt.alloc(), b"TABLE <a/>\n", 4096, &[])?;
     let mut sink = MemSink::new(rt.alloc(), 1000, 4096, &[])?;
-    let mut kernel = Kernel::new();
+    let mut kernel = Kernel::new(rt.alloc());
     let status = run(rt.alloc(), &words, &mut source, &mut sink, &mut kernel);
     assert_eq!(rt; status, 2);
     assert_eq!(rt; sink.bytes(), b"".as_slice());

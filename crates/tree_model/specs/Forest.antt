@@ -16,6 +16,11 @@ abbrev pub count : {A : Type 0} → Forest A → ℕ
 count none = 0
 count (tree a attrs kids rest) = 1 + length attrs + count kids + count rest
 
+-- how many trees there are, without those below them
+abbrev pub top_count : {A : Type 0} → Forest A → ℕ
+top_count none = 0
+top_count (tree a attrs kids rest) = suc (top_count rest)
+
 -- one list of trees, then the other
 abbrev pub join : {A : Type 0} → Forest A → Forest A → Forest A
 join none g = g

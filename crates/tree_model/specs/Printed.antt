@@ -1,9 +1,10 @@
 -- The text of rows: a line `pre dist size asize id kind content` for each node.
-use Rattle.std.specs.Prelude.{ℕ, suc, ◌==◌, List, [], ◌∷◌, ◌++◌, codes, if◌then◌else◌}
+use Rattle.std.specs.Prelude.{ℕ, suc, ◌-◌, ◌==◌, List, [], ◌∷◌, ◌++◌, map, take, drop, codes, Option, Some, None, if◌then◌else◌}
 use Rattle.std.specs.Fmt.{decimal}
 use Rattle.std.specs.List.{flat_map, join_with_byte}
-use Rattle.tree_model.specs.Forest.{Forest, Line, flatten}
+use Rattle.tree_model.specs.Forest.{Forest, Line, flatten, count, top_count}
 use Rattle.tree_model.specs.Labels.{Label}
+use Rattle.tree_model.specs.States.{Base}
 use Rattle.tree_model.specs.declared.row.Kind.{Kind}
 use Rattle.tree_model.specs.declared.row.Kind.TheVariants.{Doc, Elem, Text, Attr, Comm, Pi}
 use Rattle.tree_model.specs.declared.text.Name.{Name}
@@ -57,3 +58,20 @@ row_texts pre (line ∷ lines) = row_text pre line ∷ row_texts (suc pre) lines
 -- all rows of the documents, the texts joined by LF
 abbrev pub rows_text : Forest Label → List ℕ
 rows_text f = join_with_byte 10 (row_texts 0 (flatten f))
+
+-- the rows from one pre up to and without another
+abbrev pub range_text : ℕ → ℕ → Forest Label → List ℕ
+range_text from to f = join_with_byte 10 (row_texts from (take (to - from) (drop from (flatten f))))
+
+-- all rows, or those of a range
+abbrev pub storage_text : Option (ℕ × ℕ) → Forest Label → List ℕ
+storage_text None f = rows_text f
+storage_text (Some range) f = range_text range.0 range.1 f
+
+-- the line `name documents rows` of a database
+abbrev pub base_text : Base → List ℕ
+base_text base = base.name ++ (32 ∷ (decimal (top_count base.documents) ++ (32 ∷ decimal (count base.documents))))
+
+-- a line for each database, joined by LF
+abbrev pub list_text : List Base → List ℕ
+list_text bases = join_with_byte 10 (map base_text bases)

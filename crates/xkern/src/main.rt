@@ -17,7 +17,7 @@ fn main(rt: HostRuntime) -> ExitCode {
     };
     let mut source = Reading::new(rt.reader());
     let mut sink = Writing::new(io::writer(&rt));
-    let mut kernel = Kernel::new();
+    let mut kernel = Kernel::new(rt.alloc());
     let status = run(rt.alloc(), &words, &mut source, &mut sink, &mut kernel);
     ExitCode::from(status)
 }

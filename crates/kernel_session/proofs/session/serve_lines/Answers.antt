@@ -1,6 +1,6 @@
 use Rattle.std.proofs.Common.{◌^◌, [], refl, sym}
 use Rattle.kernel_session.proofs.Streams.{prepend_nil}
-use Rattle.kernel_session.proofs.Sessions.{served_none, served_more, no_memory, write_fault, done}
+use Rattle.kernel_session.proofs.Sessions.{served_none, served_more, no_memory, write_fault, done, done_by_exit}
 use Rattle.kernel_session.proofs.session.serve_lines.Goals as goal
 
 pub returns-in_default-clause-ran : goal.returns-in_default-clause-ran
@@ -26,11 +26,17 @@ returns-in-Ok-serve-clause-ran g c =
     let answered = rw c.in-Ok-serve.is at c.serve.ensures in
     done _ _ _ _ _ _ _ _ _ _ _ _ _ _ _ _ _ _ _ _ _ _ c.lines.invariant line used answered
 
+pub returns-then-served-clause-ran : goal.returns-then-served-clause-ran
+returns-then-served-clause-ran g c =
+    let line = rw c.in-Newline.is at c.in-Ok-next.ensures.line in
+    let answered = rw c.in-Ok-serve-2.is at c.serve-in-Newline.ensures in
+    done_by_exit _ _ _ _ _ _ _ _ _ _ _ _ _ _ _ _ _ _ _ _ _ _ c.lines.invariant line answered c.if-served.true
+
 pub lines-preserved : goal.lines-preserved
 lines-preserved g c =
     let line = rw c.in-Newline.is at c.in-Ok-next.ensures.line in
     let answered = rw c.in-Ok-serve-2.is at c.serve-in-Newline.ensures in
-    served_more _ _ _ _ _ _ _ _ _ _ _ _ _ _ _ _ _ _ _ _ _ c.lines.invariant line answered
+    served_more _ _ _ _ _ _ _ _ _ _ _ _ _ _ _ _ _ _ _ _ _ c.lines.invariant line answered c.if-served.false
 
 pub returns-in-Err-serve-2-clause-ran : goal.returns-in-Err-serve-2-clause-ran
 returns-in-Err-serve-2-clause-ran g c =

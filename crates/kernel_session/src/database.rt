@@ -1,0 +1,123 @@
+// A database of a kernel.
+ghost use Rattle.std.specs.Prelude.{◌≡◌, ◌<◌, ◌^◌, ◌++◌, true, OnOk, decimal, length};
+ghost use Rattle.std.specs.Str.{bytes_eq};
+ghost use Rattle.tree_model.specs.Forest.{count};
+ghost use Rattle.tree_model.specs.Printed.{base_text, rows_text, range_text};
+ghost use Rattle.tree_model.specs.States.{is_base_name, new_base};
+ghost use Rattle.doc_import.specs.Imported.{IsBuilt, built_forest};
+ghost use Rattle.kernel_session.specs.Databases.{IsKeptBuilt};
+
+use doc_import::Built;
+use itoa::Buffer;
+use serializer::print_storage;
+use std::alloc::AllocError;
+use std::marker::Model;
+
+/// A database: its name, the id that its next node gets, how many documents it has, and their rows. Contracts see the base.
+#[derive(Drop)]
+pub struct Database {
+    name: Vec<u8>,
+    next: u32,
+    documents: u32,
+    built: Built,
+}
+
+impl Model for Database {
+    ghost use Rattle.std.specs.Prelude.{◌≡◌, true};
+    ghost use Rattle.tree_model.specs.States.{Base, is_base_name};
+    ghost use Rattle.tree_model.specs.Codes.{coded_base};
+    ghost use Rattle.doc_import.specs.Imported.{built_forest};
+    ghost use Rattle.kernel_session.specs.Databases.{IsKeptBuilt};
+
+    ghost Value = { Base };
+
+    ghost coded = { coded_base };
+
+    ghost view = { λ d. record { name = d.name.items; next = d.next; documents = built_forest d.built; has_text_index = true; has_attribute_index = true } };
+
+    ghost invariant = { λ d. (is_base_name d.name.items ≡ true) × IsKeptBuilt d.built d.next d.documents };
+}
+
+impl Database {
+    /// A new database with these documents.
+    pub fn new(name: Vec<u8>, documents: u32, built: Built) -> Database
+        requires name { is_base_name name.items ≡ true }
+        requires kept { IsKeptBuilt built (count (built_forest built)) documents }
+        ensures { result ≡ new_base name.items (built_forest built) }
+    {
+        let next = built.rows.len() as u32;
+        Database {
+            name,
+            next,
+            documents,
+            built,
+        }
+    }
+
+    pub fn name(&self) -> &[u8]
+        ensures { result.now ≡ self.now.name }
+    {
+        self.name.as_slice()
+    }
+
+    pub fn is_named(&self, name: &[u8]) -> bool
+        ensures { result ≡ bytes_eq self.now.name name.now }
+    {
+        self.name.as_slice() == name
+    }
+
+    /// Appends all rows.
+    pub fn push_rows(&self, out: &mut Vec<u8>) -> Result<(), AllocError>
+        ensures { OnOk result (out.new.items ≡ out.old.items ++ rows_text self.now.documents) }
+    {
+        push_all_rows(&self.built, out)
+    }
+
+    /// Appends the rows from one pre up to and without another.
+    pub fn push_range(&self, from: u32, to: u32, out: &mut Vec<u8>) -> Result<(), AllocError>
+        ensures { OnOk result (out.new.items ≡ out.old.items ++ range_text from to self.now.documents) }
+    {
+        print_storage(
+            &self.built.rows,
+            &self.built.names,
+            &self.built.values,
+            from,
+            to,
+            out,
+        )
+    }
+
+    /// Appends the line `name documents rows`.
+    pub fn push_line(&self, out: &mut Vec<u8>) -> Result<(), AllocError>
+        ensures { OnOk result (out.new.items ≡ out.old.items ++ base_text self.now) }
+    {
+        out.extend_from_slice(&self.name)?;
+        out.push(b' ')?;
+        push_number(out, self.documents as u64)?;
+        out.push(b' ')?;
+        push_number(out, self.built.rows.len() as u64)
+    }
+}
+
+fn push_number(out: &mut Vec<u8>, n: u64) -> Result<(), AllocError>
+    ensures { OnOk result (out.new.items ≡ out.old.items ++ decimal n) }
+{
+    let mut buffer = Buffer::new();
+    out.extend_from_slice(buffer.format(n).as_bytes())
+}
+
+/// Appends all rows of a document.
+pub fn push_all_rows(built: &Built, out: &mut Vec<u8>) -> Result<(), AllocError>
+    requires built { IsBuilt built.now }
+    requires few { length built.now.rows.items < 2 ^ 32 }
+    ensures { OnOk result (out.new.items ≡ out.old.items ++ rows_text (built_forest built.now)) }
+{
+    print_storage(
+        &built.rows,
+        &built.names,
+        &built.values,
+        0,
+        built.rows.len() as u32,
+        out,
+    )
+}

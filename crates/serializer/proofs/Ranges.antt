@@ -1,0 +1,139 @@
+-- The text of a range of rows, row by row.
+use Rattle.std.proofs.Common.{◌≡◌, ◌≢◌, ◌⊎◌, inl, inr, ℕ, zero, suc, ◌+◌, ◌-◌, ◌<◌, ◌≤◌, min, List, [], ◌∷◌, ◌++◌, length, get_or, take, drop, drop-cons, add-one, append_assoc, append-nil, length-drop, refl, ap, sym, ◌∙◌, arith}
+use Rattle.std.proofs.Math.Seq.{take-suc}
+use Rattle.std.specs.List.{join_with_byte}
+use Rattle.std.proofs.lemmas.List.{drop_all, drop-map, take-map, take_min, length-map}
+use Rattle.std.proofs.lemmas.Bool.{cases_lt}
+use Rattle.tree_model.specs.Forest.{Line, grove_of, IsFlat}
+use Rattle.tree_model.specs.Labels.{Label}
+use Rattle.tree_model.specs.Rows.{line_of, lines_of, ArePlaced}
+use Rattle.tree_model.specs.Printed.{escape, escaped, row_text, row_texts, range_text}
+use Rattle.tree_model.specs.declared.row.Row.{Row}
+
+-- the lines from a place on, each behind an LF
+abbrev pub more_text : ℕ → List (Line Label) → List ℕ
+more_text pre [] = []
+more_text pre (line ∷ lines) = (10 ∷ []) ++ (row_text pre line ++ more_text (suc pre) lines)
+
+-- the text of the lines that are left, behind so many others
+abbrev pub text_ahead : ℕ → ℕ → List (Line Label) → List ℕ
+text_ahead zero pre lines = join_with_byte 10 (row_texts pre lines)
+text_ahead (suc n) pre lines = more_text pre lines
+
+joined : (pre : ℕ) (line : Line Label) (lines : List (Line Label)) → join_with_byte 10 (row_texts pre (line ∷ lines)) ≡ row_text pre line ++ more_text (suc pre) lines
+joined pre line [] = sym (append-nil (row_text pre line))
+joined pre line (next ∷ lines) = ap (λ l. row_text pre line ++ 10 ∷ l) (joined (suc pre) next lines)
+
+-- what stands before a line, behind so many others
+abbrev pub gap : ℕ → List ℕ
+gap zero = []
+gap (suc n) = 10 ∷ []
+
+pub spaced_first : (first n pre : ℕ) (out spaced : List ℕ) → pre ≡ first + n → pre ≡ first → spaced ≡ out → spaced ≡ out ++ gap n
+spaced_first first zero pre out spaced e at same = same ∙ sym (append-nil out)
+spaced_first first (suc n) pre out spaced e at same = absurd (omega arith)
+
+pub spaced_behind : (first n pre : ℕ) (out spaced : List ℕ) → pre ≡ first + n → pre ≢ first → spaced ≡ out ++ 10 ∷ [] → spaced ≡ out ++ gap n
+spaced_behind first zero pre out spaced e apart more = absurd (omega arith)
+spaced_behind first (suc n) pre out spaced e apart more = more
+
+ahead_of : (n pre : ℕ) (line : Line Label) (lines : List (Line Label)) → text_ahead n pre (line ∷ lines) ≡ gap n ++ (row_text pre line ++ more_text (suc pre) lines)
+ahead_of zero pre line lines = joined pre line lines
+ahead_of (suc n) pre line lines = refl
+
+-- a line more is printed
+one_more : (n pre : ℕ) (line : Line Label) (lines : List (Line Label)) (out spaced new all : List ℕ) → spaced ≡ out ++ gap n → new ≡ spaced ++ row_text pre line
+    → out ++ text_ahead n pre (line ∷ lines) ≡ all → new ++ more_text (suc pre) lines ≡ all
+one_more n pre line lines out spaced new all e f text =
+    let whole : new ≡ (out ++ gap n) ++ row_text pre line = f ∙ ap (λ l. l ++ row_text pre line) e in
+    ap (λ l. l ++ more_text (suc pre) lines) whole
+    ∙ append_assoc (out ++ gap n) (row_text pre line) (more_text (suc pre) lines)
+    ∙ append_assoc out (gap n) (row_text pre line ++ more_text (suc pre) lines)
+    ∙ ap (λ l. out ++ l) (sym (ahead_of n pre line lines))
+    ∙ text
+
+pub row_more : (names : List (List ℕ)) (values : List ℕ) (rows : List Row) (row : Row) (i pre : ℕ) (out spaced new all : List ℕ) → i < length rows
+    → spaced ≡ out ++ gap i → new ≡ spaced ++ row_text pre (line_of names values (get_or rows i row)) → out ++ text_ahead i pre (lines_of names values (drop i rows)) ≡ all
+    → new ++ text_ahead (i + 1) (pre + 1) (lines_of names values (drop (i + 1) rows)) ≡ all
+row_more names values rows row i pre out spaced new all lt e f text =
+    let split : out ++ text_ahead i pre (lines_of names values (get_or rows i row ∷ drop (suc i) rows)) ≡ all
+    = ap (λ l. out ++ text_ahead i pre (lines_of names values l)) (sym (drop-cons rows i row lt)) ∙ text in
+    rw (add-one i, add-one pre) (one_more i pre (line_of names values (get_or rows i row)) (lines_of names values (drop (suc i) rows)) out spaced new all e f split)
+
+placed_behind : (names : List (List ℕ)) (values : List ℕ) (rows : List Row) (n : ℕ) → ArePlaced names values rows → ArePlaced names values (drop n rows)
+placed_behind names values rows zero placed = placed
+placed_behind names values [] (suc n) placed = placed
+placed_behind names values (row ∷ rows) (suc n) placed = placed_behind names values rows n placed.2
+
+placed_before : (names : List (List ℕ)) (values : List ℕ) (rows : List Row) (n : ℕ) → ArePlaced names values rows → ArePlaced names values (take n rows)
+placed_before names values rows zero placed = tt
+placed_before names values [] (suc n) placed = placed
+placed_before names values (row ∷ rows) (suc n) placed = (placed.0, placed.1, placed_before names values rows n placed.2)
+
+placed_next : (names : List (List ℕ)) (values : List ℕ) (rows : List Row) (i : ℕ) → ArePlaced names values (drop i rows) → ArePlaced names values (drop (suc i) rows)
+placed_next names values [] zero placed = placed
+placed_next names values (row ∷ rows) zero placed = placed.2
+placed_next names values [] (suc i) placed = placed
+placed_next names values (row ∷ rows) (suc i) placed = placed_next names values rows i placed
+
+pub placed_more : (names : List (List ℕ)) (values : List ℕ) (rows : List Row) (i : ℕ) → ArePlaced names values (drop i rows) → ArePlaced names values (drop (i + 1) rows)
+placed_more names values rows i placed = rw add-one (placed_next names values rows i placed)
+
+pub placed_within : (names : List (List ℕ)) (values : List ℕ) (rows : List Row) (n m : ℕ) → ArePlaced names values rows → ArePlaced names values (take n (drop m rows))
+placed_within names values rows n m placed = placed_before names values (drop m rows) n (placed_behind names values rows m placed)
+
+nothing_ahead : (n pre : ℕ) → text_ahead n pre [] ≡ []
+nothing_ahead zero pre = refl
+nothing_ahead (suc n) pre = refl
+
+take_none : {A : Type 0} (xs : List A) (n : ℕ) → min n (length xs) ≡ 0 → take n xs ≡ []
+take_none xs zero e = refl
+take_none [] (suc n) e = refl
+take_none (x ∷ xs) (suc n) e = absurd (omega arith)
+
+lines_within : (names : List (List ℕ)) (values : List ℕ) (rows : List Row) (n m : ℕ) → lines_of names values (take n (drop m rows)) ≡ take n (drop m (lines_of names values rows))
+lines_within names values rows n m = sym (ap (take n) (drop-map (line_of names values) m rows) ∙ take-map (line_of names values) n (drop m rows))
+
+no_rows : (lines : List (Line Label)) (from to : ℕ) → min (length lines) to ≤ from → take (to - from) (drop from lines) ≡ []
+no_rows lines from to le = take_none (drop from lines) (to - from) (omega (arith, length-drop from lines))
+
+-- the rows of a range that is cut to those that there are
+same_rows : (lines : List (Line Label)) (from to start end : ℕ) → end ≡ min (length lines) to → start ≡ min end from
+    → row_texts start (take (end - start) (drop start lines)) ≡ row_texts from (take (to - from) (drop from lines))
+same_rows lines from to start end e f = same_by (cases_lt from end)
+  where
+    same_by : (from < end) ⊎ (end ≤ from) → row_texts start (take (end - start) (drop start lines)) ≡ row_texts from (take (to - from) (drop from lines))
+    same_by (inr le) =
+        let none_cut : take (end - start) (drop start lines) ≡ [] = take_none (drop start lines) (end - start) (omega arith) in
+        ap (row_texts start) none_cut ∙ sym (ap (row_texts from) (no_rows lines from to (omega arith)))
+    same_by (inl lt) =
+        let at : start ≡ from = omega arith in
+        let count : end - from ≡ min (to - from) (length (drop from lines)) = omega (arith, length-drop from lines) in
+        ap (λ n. row_texts n (take (end - n) (drop n lines))) at
+        ∙ ap (λ n. row_texts from (take n (drop from lines))) count
+        ∙ ap (row_texts from) (take_min (to - from) (drop from lines))
+
+-- all rows of the range are printed
+pub range_printed : (names : List (List ℕ)) (values : List ℕ) (rows : List Row) (out before : List ℕ) (i pre from to start end : ℕ)
+    → IsFlat (lines_of names values rows) → end ≡ min (length rows) to → start ≡ min end from → length (take (end - start) (drop start rows)) ≤ i
+    → out ++ text_ahead i pre (lines_of names values (drop i (take (end - start) (drop start rows)))) ≡ before ++ join_with_byte 10 (row_texts start (lines_of names values (take (end - start) (drop start rows))))
+    → out ≡ before ++ range_text from to (grove_of (lines_of names values rows))
+range_printed names values rows out before i pre from to start end flat e f past text =
+    let part : List Row = take (end - start) (drop start rows) in
+    let none_ahead : out ++ text_ahead i pre (lines_of names values (drop i part)) ≡ out
+    = ap (λ l. out ++ text_ahead i pre (lines_of names values l)) (drop_all i part past) ∙ ap (λ l. out ++ l) (nothing_ahead i pre) ∙ append-nil out in
+    sym none_ahead ∙ text ∙ ap (λ l. before ++ join_with_byte 10 l)
+    (ap (row_texts start) (lines_within names values rows (end - start) start)
+    ∙ same_rows (lines_of names values rows) from to start end (e ∙ ap (λ n. min n to) (sym (length-map rows (line_of names values)))) f
+    ∙ ap (λ l. row_texts from (take (to - from) (drop from l))) (sym flat))
+
+-- a front that is printed as it is, and one byte more
+pub escaped_more : (bytes : List ℕ) (i : ℕ) → i < length bytes → escape (get_or bytes i 0) ≡ get_or bytes i 0 ∷ [] → escaped bytes ≡ take i bytes ++ escaped (drop i bytes)
+    → escaped bytes ≡ take (i + 1) bytes ++ escaped (drop (i + 1) bytes)
+escaped_more bytes i lt plain so_far =
+    let b : ℕ = get_or bytes i 0 in
+    let behind : escaped (drop i bytes) ≡ b ∷ escaped (drop (suc i) bytes) =
+    ap escaped (drop-cons bytes i 0 lt) ∙ ap (λ e. e ++ escaped (drop (suc i) bytes)) plain in
+    let front : take (suc i) bytes ++ escaped (drop (suc i) bytes) ≡ take i bytes ++ (b ∷ escaped (drop (suc i) bytes)) =
+    ap (λ l. l ++ escaped (drop (suc i) bytes)) (take-suc bytes i 0 lt) ∙ append_assoc (take i bytes) (b ∷ []) (escaped (drop (suc i) bytes)) in
+    rw add-one (so_far ∙ ap (λ l. take i bytes ++ l) behind ∙ sym front)

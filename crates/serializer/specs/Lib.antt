@@ -1,0 +1,2 @@
+-- What becomes of bytes that are written to.
+pub mod Growth

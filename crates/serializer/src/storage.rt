@@ -1,0 +1,226 @@
+// The text of the rows of a table.
+ghost use Rattle.std.specs.Prelude.{◌≡◌, ◌+◌, ◌≤◌, ◌<◌, ◌++◌, [], ◌∷◌, length, take, drop, IsTrue, OnOk, decimal};
+ghost use Rattle.tree_model.specs.Forest.{grove_of, IsFlat};
+ghost use Rattle.tree_model.specs.Labels.{local_name};
+ghost use Rattle.tree_model.specs.Rows.{name_at, value_at, line_of, lines_of, ArePlaced};
+ghost use Rattle.tree_model.specs.Printed as printed;
+ghost use Rattle.serializer.specs.Growth.{Grew};
+
+use itoa::Buffer;
+use tree_model::{Kind, NoMemory, Row, Text};
+
+fn kind_word(kind: Kind) -> &'static str
+    ensures { result.now ≡ printed.kind_word kind }
+{
+    match kind {
+        Kind::Doc => "doc",
+        Kind::Elem => "elem",
+        Kind::Text => "text",
+        Kind::Attr => "attr",
+        Kind::Comm => "comm",
+        Kind::Pi => "pi",
+    }
+}
+
+// Whether a byte is printed as it is.
+fn is_plain(byte: u8) -> bool
+    ensures { IsTrue result → printed.escape byte ≡ byte ∷ [] }
+{
+    !matches!(byte, b'\\' | b'\n' | b'\r' | b'\t')
+}
+
+// The length of a front that is printed as it is: all before the first byte that isn't.
+#[tactic(auto, using(crate::proofs::Ranges::escaped_more))]
+fn plain_len(bytes: &[u8]) -> usize
+    ensures plain { printed.escaped bytes.now ≡ take result bytes.now ++ printed.escaped (drop result bytes.now) }
+    ensures within { result ≤ length bytes.now }
+{
+    for (len, byte) in bytes.iter().enumerate() {
+        if !is_plain(*byte) {
+            return len;
+        }
+    }
+    bytes.len()
+}
+
+#[tactic(auto, using(crate::proofs::Growing::grew_by, crate::proofs::Growing::grew_none))]
+fn push_bytes(out: &mut Vec<u8>, bytes: &[u8]) -> Result<(), NoMemory>
+    ensures text { OnOk result (out.new.items ≡ out.old.items ++ bytes.now) }
+    ensures kept { Grew out.old.items out.new.items }
+{
+    out.extend_from_slice(bytes)
+}
+
+#[tactic(auto, using(crate::proofs::Growing::grew_by, crate::proofs::Growing::grew_none))]
+fn push_byte(out: &mut Vec<u8>, byte: u8) -> Result<(), NoMemory>
+    ensures text { OnOk result (out.new.items ≡ out.old.items ++ byte ∷ []) }
+    ensures kept { Grew out.old.items out.new.items }
+{
+    Ok(out.push(byte)?)
+}
+
+fn push_escape(out: &mut Vec<u8>, byte: u8) -> Result<(), NoMemory>
+    ensures text { OnOk result (out.new.items ≡ out.old.items ++ printed.escape byte) }
+    ensures kept { Grew out.old.items out.new.items }
+{
+    match byte {
+        b'\\' => push_bytes(out, b"\\\\"),
+        b'\n' => push_bytes(out, b"\\n"),
+        b'\r' => push_bytes(out, b"\\r"),
+        b'\t' => push_bytes(out, b"\\t"),
+        other => push_byte(out, other),
+    }
+}
+
+#[tactic(auto, using(crate::proofs::Growing::grew_none, crate::proofs::Growing::grew_twice))]
+fn push_escaped(out: &mut Vec<u8>, bytes: &[u8]) -> Result<(), NoMemory>
+    ensures text { OnOk result (out.new.items ≡ out.old.items ++ printed.escaped bytes.now) }
+    ensures kept { Grew out.old.items out.new.items }
+{
+    let mut rest = bytes;
+    while !rest.is_empty() {
+        let (plain, behind) = rest.split_at(plain_len(rest));
+        push_bytes(out, plain)?;
+        let [first, more @ ..] = behind else {
+            return Ok(());
+        };
+        push_escape(out, *first)?;
+        rest = more;
+    }
+    Ok(())
+}
+
+fn push_number(out: &mut Vec<u8>, n: u64) -> Result<(), NoMemory>
+    ensures text { OnOk result (out.new.items ≡ out.old.items ++ decimal n) }
+    ensures kept { Grew out.old.items out.new.items }
+{
+    let mut buffer = Buffer::new();
+    push_bytes(out, buffer.format(n).as_bytes())
+}
+
+// A number and a space. Most numbers of a row have one digit.
+#[tactic(auto, unfolding(tree_model::specs::Printed::field_text), using(std::proofs::lemmas::Fmt::decimal_digit, crate::proofs::Growing::grew_twice))]
+fn push_field(out: &mut Vec<u8>, n: u64) -> Result<(), NoMemory>
+    ensures text { OnOk result (out.new.items ≡ out.old.items ++ printed.field_text n) }
+    ensures kept { Grew out.old.items out.new.items }
+{
+    if n < 10 {
+        return push_bytes(out, &[b'0' + n as u8, b' ']);
+    }
+    push_number(out, n)?;
+    push_byte(out, b' ')
+}
+
+#[tactic(auto, using(crate::proofs::Growing::grew_twice))]
+fn push_attribute(out: &mut Vec<u8>, name: &[u8], value: &[u8]) -> Result<(), NoMemory>
+    ensures text { OnOk result (out.new.items ≡ out.old.items ++ printed.content_of Kind.Attr (local_name name.now) value.now) }
+    ensures kept { Grew out.old.items out.new.items }
+{
+    push_escaped(out, name)?;
+    push_bytes(out, b"=\"")?;
+    push_escaped(out, value)?;
+    push_bytes(out, b"\"")
+}
+
+#[tactic(auto, using(crate::proofs::Growing::grew_twice))]
+fn push_instruction(out: &mut Vec<u8>, name: &[u8], value: &[u8]) -> Result<(), NoMemory>
+    ensures text { OnOk result (out.new.items ≡ out.old.items ++ printed.content_of Kind.Pi (local_name name.now) value.now) }
+    ensures kept { Grew out.old.items out.new.items }
+{
+    push_escaped(out, name)?;
+    if value.is_empty() {
+        return Ok(());
+    }
+    push_byte(out, b' ')?;
+    push_escaped(out, value)
+}
+
+fn push_content(out: &mut Vec<u8>, kind: Kind, name: &[u8], value: &[u8]) -> Result<(), NoMemory>
+    ensures text { OnOk result (out.new.items ≡ out.old.items ++ printed.content_of kind (local_name name.now) value.now) }
+    ensures kept { Grew out.old.items out.new.items }
+{
+    match kind {
+        Kind::Elem => push_escaped(out, name),
+        Kind::Attr => push_attribute(out, name, value),
+        Kind::Pi => push_instruction(out, name, value),
+        Kind::Doc | Kind::Text | Kind::Comm => push_escaped(out, value),
+    }
+}
+
+// All of a row's fields before its content.
+#[tactic(auto, using(crate::proofs::Growing::grew_twice))]
+fn push_head(out: &mut Vec<u8>, pre: u64, row: &Row) -> Result<(), NoMemory>
+    ensures text { OnOk result (out.new.items ≡ out.old.items ++ printed.head_text pre (line_of [] [] row.now)) }
+    ensures kept { Grew out.old.items out.new.items }
+{
+    push_field(out, pre)?;
+    push_field(out, u64::from(row.dist))?;
+    push_field(out, u64::from(row.size))?;
+    push_field(out, u64::from(row.asize))?;
+    push_field(out, u64::from(row.id))?;
+    push_bytes(out, kind_word(row.kind).as_bytes())?;
+    push_byte(out, b' ')
+}
+
+fn name_of<'a>(names: &'a [Text], row: &Row) -> &'a [u8]
+    requires { row.now.name < length names.now }
+    ensures { result.now ≡ name_at names.now row.now.name }
+{
+    names[row.name as usize].as_str().as_bytes()
+}
+
+fn value_of<'a>(values: &'a [u8], row: &Row) -> &'a [u8]
+    requires { row.now.val.at + row.now.val.len ≤ length values.now }
+    ensures { result.now ≡ value_at values.now row.now.val }
+{
+    let from = row.val.at as usize;
+    &values[from..from + row.val.len as usize]
+}
+
+#[tactic(auto, using(crate::proofs::Growing::grew_twice))]
+fn push_row(
+    out: &mut Vec<u8>,
+    pre: u64,
+    row: &Row,
+    names: &[Text],
+    values: &[u8],
+) -> Result<(), NoMemory>
+    requires name { row.now.name < length names.now }
+    requires value { row.now.val.at + row.now.val.len ≤ length values.now }
+    ensures text { OnOk result (out.new.items ≡ out.old.items ++ printed.row_text pre (line_of names.now values.now row.now)) }
+    ensures kept { Grew out.old.items out.new.items }
+{
+    push_head(out, pre, row)?;
+    push_content(out, row.kind, name_of(names, row), value_of(values, row))
+}
+
+/// Appends a line for each row from `from` up to and without `to`, joined by LF, with none behind the last: `pre dist size
+/// asize id kind content`, the numbers in decimal. `pre` is the row's number, counted from 0 at the first of all rows; a
+/// number beyond them names no row. In the content a backslash, LF, CR and TAB stand as `\\`, `\n`, `\r` and `\t`. After
+/// `NoMemory` a part of the text may stand behind what `out` had before.
+pub fn print_storage(
+    rows: &[Row],
+    names: &[Text],
+    values: &[u8],
+    from: u32,
+    to: u32,
+    out: &mut Vec<u8>,
+) -> Result<(), NoMemory>
+    requires placed { ArePlaced names.now values.now rows.now }
+    requires flat { IsFlat (lines_of names.now values.now rows.now) }
+    ensures text { OnOk result (out.new.items ≡ out.old.items ++ printed.range_text from to (grove_of (lines_of names.now values.now rows.now))) }
+    ensures kept { Grew out.old.items out.new.items }
+{
+    let end = rows.len().min(to as usize);
+    let start = end.min(from as usize);
+    let first = start as u64;
+    let mut pre = first;
+    for row in &rows[start..end] {
+        if pre != first {
+            push_byte(out, b'\n')?;
+        }
+        push_row(out, pre, row, names, values)?;
+        pre += 1;
+    }
+    Ok(())
+}
