@@ -176,5 +176,5 @@ no_base (Err refusal) strip name xml (Some given) e now good h = by h
     same = cc
 
     by : IsReadFault xml strip refusal → IsNoBase strip name (Some given) refusal
-    by (inl fault) = inr (inr (inl (now, good, subst (λ x. IsFault x strip (refusal_text refusal)) same fault)))
-    by (inr memory) = inr (inr (inr memory))
+    by (inl fault) = inl (inr (inr (now, good, subst (λ x. IsFault x strip (refusal_text refusal)) same fault)))
+    by (inr memory) = inr memory

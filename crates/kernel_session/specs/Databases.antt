@@ -1,17 +1,17 @@
 -- What a kernel keeps of its databases.
-use Rattle.std.specs.Prelude.{◌≡◌, ◌⊎◌, ◌<◌, ◌^◌, ℕ, Bool, true, false, List, length, map, codes, Option, Some}
+use Rattle.std.specs.Prelude.{◌≡◌, ◌⊎◌, ◌<◌, ◌^◌, ℕ, Bool, true, List, length, map, codes, Option, Some}
 use Rattle.tree_model.specs.Forest.{Forest, top_count}
 use Rattle.tree_model.specs.Labels.{Label, with_path}
 use Rattle.tree_model.specs.Reads.{Reads, read_as}
 use Rattle.tree_model.specs.Sound.{IsSound, are_distinct}
-use Rattle.tree_model.specs.States.{Base, is_base_name, default_path, new_base}
+use Rattle.tree_model.specs.States.{Base}
 use Rattle.tree_model.specs.declared.code.Refusal.{Refusal}
 use Rattle.doc_import.specs.Imported.{IsBuilt, built_forest}
 use Rattle.doc_import.specs.declared.reading.Built.{Built}
 use Rattle.doc_import.specs.declared.reading.ImportFault.{ImportFault}
 use Rattle.doc_import.specs.declared.reading.ImportFault.TheVariants.{TooLong, Malformed, TooManyRows, NoMemory}
 use Rattle.kernel_session.specs.Replies.{refusal_text}
-use Rattle.kernel_session.specs.Steps.{IsFault, IsContent, IsContentFault, has_later_input}
+use Rattle.kernel_session.specs.Steps.{IsFault, IsCreateFault}
 
 -- the rows are those of a forest that keeps all rules
 pub record IsKeptBuilt (built : Built) (next documents : ℕ) : Type 0 where
@@ -28,7 +28,7 @@ pub record AreKept (bases : List Base) (opened : Option ℕ) : Type 0 where
 -- what is read from XML text, under a path
 pub record IsRead (xml : List ℕ) (strip : Bool) (path : List ℕ) (built : Built) : Type 0 where
   pub rows : IsBuilt built
-  pub forest : (g : _) × Reads xml strip (read_as g) × (built_forest built ≡ with_path path g)
+  pub forest : (g : Forest Label) × Reads xml strip (read_as g) × (built_forest built ≡ with_path path g)
 
 -- the code of a fault of an import
 abbrev pub fault_text : ImportFault → List ℕ
@@ -41,12 +41,6 @@ fault_text NoMemory = codes "XKMEM"
 abbrev pub IsReadFault : List ℕ → Bool → Refusal → Type 0
 IsReadFault xml strip refusal = IsFault xml strip (refusal_text refusal) ⊎ (refusal_text refusal ≡ codes "XKMEM")
 
--- what a new database has
-abbrev pub IsNewBase : Bool → List ℕ → Option (List ℕ) → Base → Type 0
-IsNewBase strip name xml base = (is_base_name name ≡ true) × (f : Forest Label) × IsContent strip (default_path name) xml f × (base ≡ new_base name f)
-
--- why none is made
+-- why no database is made
 abbrev pub IsNoBase : Bool → List ℕ → Option (List ℕ) → Refusal → Type 0
-IsNoBase strip name xml refusal =
-    ((has_later_input xml ≡ true) × (refusal_text refusal ≡ codes "XKCM0002")) ⊎ ((has_later_input xml ≡ false) × (is_base_name name ≡ false) × (refusal_text refusal ≡ codes "XKDB0003"))
-    ⊎ ((has_later_input xml ≡ false) × (is_base_name name ≡ true) × IsContentFault strip xml (refusal_text refusal)) ⊎ (refusal_text refusal ≡ codes "XKMEM")
+IsNoBase strip name xml refusal = IsCreateFault strip name xml (refusal_text refusal) ⊎ (refusal_text refusal ≡ codes "XKMEM")

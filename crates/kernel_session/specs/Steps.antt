@@ -39,12 +39,21 @@ abbrev pub IsContentFault : Bool → Option (List ℕ) → List ℕ → Type 0
 IsContentFault strip None code = ⊥
 IsContentFault strip (Some xml) code = IsFault xml strip code
 
+-- what CREATE DB makes
+abbrev pub IsNewBase : Bool → List ℕ → Option (List ℕ) → Base → Type 0
+IsNewBase strip name xml base = (is_base_name name ≡ true) × (f : Forest Label) × IsContent strip (default_path name) xml f × (base ≡ new_base name f)
+
+-- why it makes nothing: bytes of XML that aren't read yet, then the name, then what is read
+abbrev pub IsCreateFault : Bool → List ℕ → Option (List ℕ) → List ℕ → Type 0
+IsCreateFault strip name xml code =
+    ((has_later_input xml ≡ true) × (code ≡ codes "XKCM0002")) ⊎ ((has_later_input xml ≡ false) × (is_base_name name ≡ false) × (code ≡ codes "XKDB0003"))
+    ⊎ ((has_later_input xml ≡ false) × (is_base_name name ≡ true) × IsContentFault strip xml code)
+
 -- what an accepted command gives, and the state that it leaves
 abbrev pub IsAccepted : Options → State → Form → List ℕ → State → Type 0
 -- the rows of the document, under the path `table`
 IsAccepted options state (table xml) payload state' = (f : Forest Label) × IsContent options.strip (codes "table") (Some xml) f × (payload ≡ rows_text f) × (state' ≡ state)
-IsAccepted options state (create name xml) payload state' =
-    (is_base_name name ≡ true) × (f : Forest Label) × IsContent options.strip (default_path name) xml f × (payload ≡ []) × (state' ≡ with_new (new_base name f) state)
+IsAccepted options state (create name xml) payload state' = (base : Base) × IsNewBase options.strip name xml base × (payload ≡ []) × (state' ≡ with_new base state)
 IsAccepted options state (storage range) payload state' = (base : Base) × IsOpened state base × (payload ≡ storage_text range base.documents) × (state' ≡ state)
 IsAccepted options state list payload state' = (payload ≡ list_text state.bases) × (state' ≡ state)
 IsAccepted options state exit payload state' = (payload ≡ []) × (state' ≡ state)
@@ -54,9 +63,7 @@ IsAccepted options state no_form payload state' = ⊥
 -- why a command is refused: bytes of XML that aren't read yet, then the state, then what is read
 abbrev pub IsRefused : Options → State → Form → List ℕ → Type 0
 IsRefused options state (table xml) code = ((has_later_byte xml ≡ true) × (code ≡ codes "XKCM0002")) ⊎ ((has_later_byte xml ≡ false) × IsFault xml options.strip code)
-IsRefused options state (create name xml) code =
-    ((has_later_input xml ≡ true) × (code ≡ codes "XKCM0002")) ⊎ ((has_later_input xml ≡ false) × (is_base_name name ≡ false) × (code ≡ codes "XKDB0003"))
-    ⊎ ((has_later_input xml ≡ false) × (is_base_name name ≡ true) × IsContentFault options.strip xml code)
+IsRefused options state (create name xml) code = IsCreateFault options.strip name xml code
 IsRefused options state (storage range) code = (state.opened ≡ None) × (code ≡ codes "XKDB0001")
 IsRefused options state list code = ⊥
 IsRefused options state exit code = ⊥

@@ -2,7 +2,8 @@
 ghost use Rattle.std.specs.Prelude.{◌≡◌, true, false, [], Some, IfOk, IfErr};
 ghost use Rattle.std.specs.List.{list_all};
 ghost use Rattle.tree_model.specs.States as states;
-ghost use Rattle.kernel_session.specs.Databases.{IsNewBase, IsNoBase, IsReadFault};
+ghost use Rattle.kernel_session.specs.Databases.{IsNoBase, IsReadFault};
+ghost use Rattle.kernel_session.specs.Steps.{IsNewBase};
 ghost use Rattle.kernel_session.specs.Steps as step;
 
 use crate::command::XmlText;

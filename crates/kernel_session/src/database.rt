@@ -1,5 +1,5 @@
 // A database of a kernel.
-ghost use Rattle.std.specs.Prelude.{◌≡◌, ◌<◌, ◌^◌, ◌++◌, true, OnOk, decimal, length};
+ghost use Rattle.std.specs.Prelude.{◌≡◌, ◌<◌, ◌^◌, ◌++◌, true, OnOk, length};
 ghost use Rattle.std.specs.Str.{bytes_eq};
 ghost use Rattle.tree_model.specs.Forest.{count};
 ghost use Rattle.tree_model.specs.Printed.{base_text, rows_text, range_text};
@@ -8,8 +8,7 @@ ghost use Rattle.doc_import.specs.Imported.{IsBuilt, built_forest};
 ghost use Rattle.kernel_session.specs.Databases.{IsKeptBuilt};
 
 use doc_import::Built;
-use itoa::Buffer;
-use serializer::print_storage;
+use serializer::{print_storage, push_number};
 use std::alloc::AllocError;
 use std::marker::Model;
 
@@ -54,12 +53,14 @@ impl Database {
         }
     }
 
+    /// The name.
     pub fn name(&self) -> &[u8]
         ensures { result.now ≡ self.now.name }
     {
         self.name.as_slice()
     }
 
+    /// Whether this is its name.
     pub fn is_named(&self, name: &[u8]) -> bool
         ensures { result ≡ bytes_eq self.now.name name.now }
     {
@@ -97,13 +98,6 @@ impl Database {
         out.push(b' ')?;
         push_number(out, self.built.rows.len() as u64)
     }
-}
-
-fn push_number(out: &mut Vec<u8>, n: u64) -> Result<(), AllocError>
-    ensures { OnOk result (out.new.items ≡ out.old.items ++ decimal n) }
-{
-    let mut buffer = Buffer::new();
-    out.extend_from_slice(buffer.format(n).as_bytes())
 }
 
 /// Appends all rows of a document.

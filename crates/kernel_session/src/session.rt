@@ -104,12 +104,6 @@ pub struct Served {
     pub ends: bool,
 }
 
-fn either(a: bool, b: bool) -> bool
-    ensures { result ≡ (a || b) }
-{
-    a || b
-}
-
 // Answers a line.
 fn serve<K: Sink>(
     alloc: Global,
@@ -128,7 +122,7 @@ fn serve<K: Sink>(
     let (reply, ends) = reply_if(alloc, &reader.line, reader.is_long, kernel, options);
     match write_if(sink, &reply) {
         Ok(()) => Ok(Served {
-            refused: either(refused, is_refused(&reply)),
+            refused: refused | is_refused(&reply),
             ends,
         }),
         Err(e) => Err(e),

@@ -3,7 +3,7 @@
 
 mod storage;
 
-pub use storage::print_storage;
+pub use storage::{print_storage, push_number};
 
 #[cfg(test)]
 mod tests;

@@ -90,7 +90,8 @@ fn push_escaped(out: &mut Vec<u8>, bytes: &[u8]) -> Result<(), NoMemory>
     Ok(())
 }
 
-fn push_number(out: &mut Vec<u8>, n: u64) -> Result<(), NoMemory>
+/// Appends a number in decimal. After `NoMemory` a part of it may stand behind what `out` had before.
+pub fn push_number(out: &mut Vec<u8>, n: u64) -> Result<(), NoMemory>
     ensures text { OnOk result (out.new.items ≡ out.old.items ++ decimal n) }
     ensures kept { Grew out.old.items out.new.items }
 {

@@ -1,4 +1,4 @@
-use Rattle.std.proofs.Common.{◌∙◌, ◌||◌, ap}
+use Rattle.std.proofs.Common.{◌||◌, ap}
 use Rattle.std.specs.Option.{option_map}
 use Rattle.kernel_session.specs.ReplyView.{answer_of}
 use Rattle.kernel_session.proofs.session.serve.Goals as goal
@@ -11,7 +11,7 @@ returns-in-Ok g c =
       answer = option_map answer_of c.reply_if-reply.result.0;
       is = answered.answer;
       later = written.later;
-      ok = (written.ok, c.either.ensures ∙ ap (λ x. c.args.refused || x) c.is_refused.ensures, answered.ends);
+      ok = (written.ok, ap (λ x. c.args.refused || x) c.is_refused.ensures, answered.ends);
       err = tt;
     }
 
