@@ -10,6 +10,9 @@ pub mod Meaning
 pub mod Reads
 pub mod Printed
 pub mod Sound
+pub mod Nodes
+pub mod Printing
+pub mod Paths
 pub mod ReadsSound
 pub mod States
 pub mod Codes
