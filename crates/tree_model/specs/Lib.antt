@@ -13,6 +13,11 @@ pub mod Sound
 pub mod Nodes
 pub mod Printing
 pub mod Paths
+pub mod XmlChars
+pub mod XmlSource
+pub mod XmlGood
+pub mod XmlMeaning
+pub mod XmlReads
 pub mod ReadsSound
 pub mod States
 pub mod Codes
