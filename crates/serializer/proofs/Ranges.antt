@@ -1,7 +1,6 @@
 -- The text of a range of rows, row by row.
 use Rattle.std.proofs.Common.{◌≡◌, ◌≢◌, ◌⊎◌, inl, inr, ℕ, zero, suc, ◌+◌, ◌-◌, ◌<◌, ◌≤◌, min, List, [], ◌∷◌, ◌++◌, length, get_or, take, drop, drop-cons, add-one, append_assoc, append-nil, length-drop, refl, ap, sym, ◌∙◌, arith}
-use Rattle.std.proofs.Math.Seq.{take-suc}
-use Rattle.std.specs.List.{flat_map, join_with_byte}
+use Rattle.std.specs.List.{join_with_byte}
 use Rattle.std.proofs.lemmas.List.{drop_all, drop-map, take-map, take_min, length-map}
 use Rattle.std.proofs.lemmas.Bool.{cases_lt}
 use Rattle.tree_model.specs.Forest.{Line, grove_of, IsFlat}
@@ -127,17 +126,7 @@ range_printed names values rows out before i pre from to start end flat e f past
     ∙ same_rows (lines_of names values rows) from to start end (e ∙ ap (λ n. min n to) (sym (length-map rows (line_of names values)))) f
     ∙ ap (λ l. row_texts from (take (to - from) (drop from l))) (sym flat))
 
--- a front that stands as it is, and one byte more
-pub escaped_more : (escape : ℕ → List ℕ) (bytes : List ℕ) (i : ℕ) → i < length bytes → escape (get_or bytes i 0) ≡ get_or bytes i 0 ∷ [] → flat_map escape bytes ≡ take i bytes ++ flat_map escape (drop i bytes)
-    → flat_map escape bytes ≡ take (i + 1) bytes ++ flat_map escape (drop (i + 1) bytes)
-escaped_more escape bytes i lt plain so_far =
-    let b : ℕ = get_or bytes i 0 in
-    let behind : flat_map escape (drop i bytes) ≡ b ∷ flat_map escape (drop (suc i) bytes) =
-    ap (flat_map escape) (drop-cons bytes i 0 lt) ∙ ap (λ e. e ++ flat_map escape (drop (suc i) bytes)) plain in
-    let front : take (suc i) bytes ++ flat_map escape (drop (suc i) bytes) ≡ take i bytes ++ (b ∷ flat_map escape (drop (suc i) bytes)) =
-    ap (λ l. l ++ flat_map escape (drop (suc i) bytes)) (take-suc bytes i 0 lt) ∙ append_assoc (take i bytes) (b ∷ []) (flat_map escape (drop (suc i) bytes)) in
-    rw add-one (so_far ∙ ap (λ l. take i bytes ++ l) behind ∙ sym front)
-
+-- of the row at a place
 pub placed_at : (names : List (List ℕ)) (values : List ℕ) (rows : List Row) (i : ℕ) (z : Row) → ArePlaced names values rows → i < length rows
     → ((get_or rows i z).name < length names) × ((get_or rows i z).val.at + (get_or rows i z).val.len ≤ length values)
 placed_at names values [] i z placed lt = absurd (omega arith)

@@ -1,21 +1,21 @@
 -- A node is printed in one walk over its lines: what each turn leaves.
 use Rattle.std.proofs.Common.{◌≡◌, ◌≢◌, inl, inr, ℕ, zero, suc, ◌+◌, ◌-◌, ◌<◌, ◌≤◌, Bool, true, false, List, [], ◌∷◌, ◌++◌, length, map, take, drop, get_or, refl, sym, ap, ◌∙◌, subst, arith, append_assoc, append-nil, length-append, take_at, drop_at, length-drop}
-use Rattle.std.specs.Prelude.{nat_lt, slice_range, ◌&&◌, codes}
+use Rattle.std.specs.Prelude.{nat_lt, slice_range, ◌&&◌}
 use Rattle.std.specs.List.{Contains, range_with_len}
-use Rattle.tree_model.specs.Forest.{Forest, none, tree, count, Line, raise, attr_lines, lines, flatten, grove_of, IsFlat}
+use Rattle.tree_model.specs.Forest.{Forest, none, tree, count, Line, raise, attr_lines, lines, grove_of, IsFlat}
 use Rattle.tree_model.specs.Trees.{raise_pos, length-lines, length-attr_lines, labels-attr_lines, flat-length}
 use Rattle.tree_model.specs.Labels.{Label}
-use Rattle.tree_model.specs.Nodes.{Node, nodes, nodes_from}
-use Rattle.tree_model.specs.Printing.{start_text, end_text, attr_text, pi_text, data_text, tree_text, trees_text, has_trees, node_text}
+use Rattle.tree_model.specs.Nodes.{Node, nodes}
+use Rattle.tree_model.specs.Printing.{start_text, end_text, tree_text, trees_text, has_trees, node_text}
 use Rattle.tree_model.specs.declared.row.Kind.{Kind}
 use Rattle.tree_model.specs.declared.row.Kind.TheVariants.{Doc, Elem, Text, Attr, Comm, Pi}
-use Rattle.tree_model.specs.Rows.{label_of, line_of, lines_of, ArePlaced}
+use Rattle.tree_model.specs.Rows.{label_of, line_of, lines_of}
 use Rattle.tree_model.specs.declared.row.Row.{Row}
 use Rattle.std.proofs.lemmas.List.{drop-drop, drop-map, take-map, length-map}
 use Rattle.std.proofs.lemmas.Simd.{map-map}
 use Rattle.std.proofs.lemmas.Bool.{lt-ltb, le-ltb, cases_lt}
-use Rattle.tree_model.proofs.Standing.{IsIn, in_from, in_contains, place_of, node_places, stands, own_line}
-use Rattle.serializer.specs.Opened.{shows_children, opens, tag_text, front_text, back_text, Opened, lines_left, text_left, AreOpen, Ahead, Ended, Then}
+use Rattle.tree_model.proofs.Standing.{IsIn, in_contains, place_of, node_places, stands, own_line}
+use Rattle.serializer.specs.Opened.{shows_children, opens, front_text, back_text, Opened, lines_left, text_left, AreOpen, Ahead, Ended, Then}
 
 -- ---- the text of one node, cut at its children
 
@@ -139,8 +139,8 @@ down ls top out new whole node outer tail attrs (tree l a k r) open_is size_is a
       asize_is = refl;
       behind_is = refl;
       text_is = text_down out (front_text node.line.label attrs true) (tree_text l a (has_trees k) (trees_text k)) (trees_text r) (back_text node.line.label) (trees_text node.right ++ text_left outer) new whole
-      (tree_text node.line.label attrs true (trees_text (tree l a k r)))
-      (e ∙ ap (λ b. out ++ front_text node.line.label attrs b) b) (text_of_open node.line.label attrs (trees_text (tree l a k r)) shown) text_is;
+          (tree_text node.line.label attrs true (trees_text (tree l a k r)))
+          (e ∙ ap (λ b. out ++ front_text node.line.label attrs b) b) (text_of_open node.line.label attrs (trees_text (tree l a k r)) shown) text_is;
     }
 
 -- or it is printed whole
@@ -165,8 +165,8 @@ over ls top at out new whole w closed e =
       within_is = reaches ls front left w.node.line at w.node.line.size own size;
       lines_are = further_on ls front left w.node.line at w.node.line.size own size;
       text_is = ap (λ l. l ++ (trees_text w.node.right ++ text_left w.outer)) e
-      ∙ append_assoc out (front_text w.node.line.label w.attrs (nat_lt w.node.line.asize w.node.line.size)) (trees_text w.node.right ++ text_left w.outer)
-      ∙ ap (λ l. out ++ (l ++ (trees_text w.node.right ++ text_left w.outer))) (sym whole_text) ∙ w.text_is;
+          ∙ append_assoc out (front_text w.node.line.label w.attrs (nat_lt w.node.line.asize w.node.line.size)) (trees_text w.node.right ++ text_left w.outer)
+          ∙ ap (λ l. out ++ (l ++ (trees_text w.node.right ++ text_left w.outer))) (sym whole_text) ∙ w.text_is;
     }
 
 -- ---- a node is printed, and what ends with it
@@ -195,7 +195,7 @@ pub record Inside (names : List (List ℕ)) (values : List ℕ) (rows : List Row
 
 pub inside : (names : List (List ℕ)) (values : List ℕ) (rows : List Row) (top at end : ℕ) (out whole : List ℕ) → Ended (lines_of names values rows) top at end out whole → at ≢ top
     → Inside names values rows top at end out whole (get_or rows at no_row) (get_or rows (at - (get_or rows at no_row).dist) no_row)
-inside names values rows top at end out whole w apart = by w.outer w.node.right w.open_is w.lines_are w.text_is
+inside names values rows top at end out whole w apart = by w.outer w.open_is w.lines_are w.text_is
   where
     ls : List (Line Label)
     ls = lines_of names values rows
@@ -228,10 +228,10 @@ inside names values rows top at end out whole w apart = by w.outer w.node.right 
           text_is = ap (λ l. out ++ l) (sym (append_assoc (tree_text l a (has_trees k) (trees_text k)) (trees_text r) (text_left (p ∷ outer)))) ∙ text_is;
         }
 
-    by : (outer : List Opened) (right : Forest Label) → AreOpen ls top w.node outer → drop end ls ≡ lines (raise w.node.line.dist w.node.line.size) w.node.right ++ lines_left w.tail outer
+    by : (outer : List Opened) → AreOpen ls top w.node outer → drop end ls ≡ lines (raise w.node.line.dist w.node.line.size) w.node.right ++ lines_left w.tail outer
         → out ++ (trees_text w.node.right ++ text_left outer) ≡ whole → Inside names values rows top at end out whole row (get_or rows (at - row.dist) no_row)
-    by [] right open_is lines_are text_is = absurd (apart (sym w.at_is ∙ open_is.1))
-    by (p ∷ outer) right open_is lines_are text_is =
+    by [] open_is lines_are text_is = absurd (apart (sym w.at_is ∙ open_is.1))
+    by (p ∷ outer) open_is lines_are text_is =
         let own = row_there names values rows at w.node.line w.node.behind (ap (λ n. drop n ls) (sym w.at_is) ∙ open_is.0) in
         let dist : row.dist ≡ w.node.line.dist = ap (λ (l : Line Label). l.dist) own.is in
         let up : at - row.dist ≡ p.place = omega (arith, open_is.2, w.at_is, dist) in
@@ -249,20 +249,20 @@ inside names values rows top at end out whole w apart = by w.outer w.node.right 
           reaches = omega (arith, up, size, many, all, open_is.3, w.end_is, w.at_is, w.within_is);
           next = λ ne. next_at w.node.right p outer refl (λ e. ne (omega (arith, up, size, open_is.3, w.end_is, w.at_is))) open_is lines_are text_is;
           ends = λ new e is.
-            let nothing : w.node.right ≡ none = no_trees w.node.right (omega (arith, up, size, open_is.3, w.end_is, w.at_is)) in
-            record {
-              node = p;
-              outer = outer;
-              tail = w.tail;
-              open_is = open_is.4;
-              at_is = sym up;
-              end_is = omega (arith, up, size);
-              within_is = w.within_is;
-              lines_are = lines_are ∙ ap (λ f. lines (raise w.node.line.dist w.node.line.size) f ++ lines_left w.tail (p ∷ outer)) nothing;
-              text_is = ap (λ l. l ++ (trees_text p.right ++ text_left outer)) (is ∙ ap (λ (l : Line Label). out ++ back_text l.label) its.is)
-              ∙ append_assoc out (back_text p.line.label) (trees_text p.right ++ text_left outer)
-              ∙ ap (λ f. out ++ (trees_text f ++ text_left (p ∷ outer))) (sym nothing) ∙ text_is;
-            };
+              let nothing : w.node.right ≡ none = no_trees w.node.right (omega (arith, up, size, open_is.3, w.end_is, w.at_is)) in
+              record {
+                node = p;
+                outer = outer;
+                tail = w.tail;
+                open_is = open_is.4;
+                at_is = sym up;
+                end_is = omega (arith, up, size);
+                within_is = w.within_is;
+                lines_are = lines_are ∙ ap (λ f. lines (raise w.node.line.dist w.node.line.size) f ++ lines_left w.tail (p ∷ outer)) nothing;
+                text_is = ap (λ l. l ++ (trees_text p.right ++ text_left outer)) (is ∙ ap (λ (l : Line Label). out ++ back_text l.label) its.is)
+                    ∙ append_assoc out (back_text p.line.label) (trees_text p.right ++ text_left outer)
+                    ∙ ap (λ f. out ++ (trees_text f ++ text_left (p ∷ outer))) (sym nothing) ∙ text_is;
+              };
         }
 
 -- ---- a turn
@@ -289,8 +289,18 @@ turn names values rows top at out whole w =
     let size : row.size ≡ w.node.line.size = ap (λ (l : Line Label). l.size) own.is in
     let asize : row.asize ≡ w.node.line.asize = ap (λ (l : Line Label). l.asize) own.is in
     let all : length ls ≡ length rows = length-map rows (line_of names values) in
-    let some : at + row.size ≤ length rows = omega (arith, size, all, ap length place, length-drop at ls, length-append (attr_lines 1 w.attrs) more, length-attr_lines 1 w.attrs, w.size_is,
-      length-append (lines (1 + length w.attrs) w.kids) (lines_left w.tail (w.node ∷ w.outer)), length-lines (1 + length w.attrs) w.kids) in
+    let some : at + row.size ≤ length rows = omega (
+      arith,
+      size,
+      all,
+      ap length place,
+      length-drop at ls,
+      length-append (attr_lines 1 w.attrs) more,
+      length-attr_lines 1 w.attrs,
+      w.size_is,
+      length-append (lines (1 + length w.attrs) w.kids) (lines_left w.tail (w.node ∷ w.outer)),
+      length-lines (1 + length w.attrs) w.kids,
+    ) in
     let rest : drop (at + 1) ls ≡ attr_lines 1 w.attrs ++ more = sym (drop-drop 1 at ls) ∙ ap (drop 1) place in
     let attrs_are : map (label_of names values) part ≡ w.attrs =
     sym (map-map (λ (m : Line Label). m.label) (line_of names values) part)
@@ -300,7 +310,7 @@ turn names values rows top at out whole w =
     let shown : front_text (label_of names values row) (map (label_of names values) part) (nat_lt row.asize row.size) ≡ front_text w.node.line.label w.attrs (nat_lt w.node.line.asize w.node.line.size)
     = ap (λ a. front_text (label_of names values row) a (nat_lt row.asize row.size)) attrs_are ∙ ap (λ (l : Line Label). front_text l.label w.attrs (nat_lt l.asize l.size)) own.is in
     let with_attrs : (attrs : List Row) → attrs ≡ part → out ++ front_text (label_of names values row) (map (label_of names values) attrs) (nat_lt row.asize row.size)
-        ≡ out ++ front_text w.node.line.label w.attrs (nat_lt w.node.line.asize w.node.line.size)
+    ≡ out ++ front_text w.node.line.label w.attrs (nat_lt w.node.line.asize w.node.line.size)
     = λ attrs are. ap (λ (l : List Row). out ++ front_text (label_of names values row) (map (label_of names values) l) (nat_lt row.asize row.size)) are ∙ ap (λ t. out ++ t) shown in
     record {
       own_within = own.within;
@@ -308,12 +318,12 @@ turn names values rows top at out whole w =
       own_size = omega (arith, size, w.size_is);
       attrs_within = omega (arith, some, asize, size, w.asize_is, w.size_is);
       first_child = λ new attrs are is_open e.
-        let at_same : w.node.place + w.node.line.asize ≡ at + row.asize = omega (arith, w.at_is, asize) in
-        let P : ℕ → Type 0 = λ n. Ahead ls top n new whole in
-        subst P at_same (down ls top out new whole w.node w.outer w.tail w.attrs w.kids w.open_is w.size_is w.asize_is w.behind_is w.text_is (ap (λ (l : Line Label). opens l.label.kind l.asize l.size) (sym own.is) ∙ is_open) (e ∙ with_attrs attrs are));
+          let at_same : w.node.place + w.node.line.asize ≡ at + row.asize = omega (arith, w.at_is, asize) in
+          let P : ℕ → Type 0 = λ n. Ahead ls top n new whole in
+          subst P at_same (down ls top out new whole w.node w.outer w.tail w.attrs w.kids w.open_is w.size_is w.asize_is w.behind_is w.text_is (ap (λ (l : Line Label). opens l.label.kind l.asize l.size) (sym own.is) ∙ is_open) (e ∙ with_attrs attrs are));
       printed = λ new attrs are closed e.
-        let P : ℕ → Type 0 = λ n. Ended ls top at (at + n) new whole in
-        subst P (sym size) (over ls top at out new whole w (ap (λ (l : Line Label). opens l.label.kind l.asize l.size) (sym own.is) ∙ closed) (e ∙ with_attrs attrs are));
+          let P : ℕ → Type 0 = λ n. Ended ls top at (at + n) new whole in
+          subst P (sym size) (over ls top at out new whole w (ap (λ (l : Line Label). opens l.label.kind l.asize l.size) (sym own.is) ∙ closed) (e ∙ with_attrs attrs are));
     }
 
 -- ---- the first turn

@@ -23,22 +23,23 @@ pub(crate) fn push_byte(out: &mut Vec<u8>, byte: u8) -> Result<(), NoMemory>
     Ok(out.push(byte)?)
 }
 
-// A rule for bytes.
+// Which bytes stand as others.
 pub(crate) trait Escape {
     ghost escape: { ℕ → List ℕ };
 
     // What stands for a byte, unless it stands as it is.
-    fn stand_in(byte: u8) -> Option<&'static [u8]>
+    fn replacement(byte: u8) -> Option<&'static [u8]>
         ensures { MatchOption result (escape byte ≡ byte ∷ []) (λ text. escape byte ≡ text.now) };
 }
 
 // The content of a row.
-pub(crate) struct Content;
+pub(crate) struct RowContent;
 
-impl Escape for Content {
+impl Escape for RowContent {
     ghost escape = { printed.escape };
 
-    fn stand_in(byte: u8) -> Option<&'static [u8]> {
+    #[inline]
+    fn replacement(byte: u8) -> Option<&'static [u8]> {
         match byte {
             b'\\' => Some(b"\\\\"),
             b'\n' => Some(b"\\n"),
@@ -50,12 +51,13 @@ impl Escape for Content {
 }
 
 // Character data of XML.
-pub(crate) struct Data;
+pub(crate) struct CharacterData;
 
-impl Escape for Data {
+impl Escape for CharacterData {
     ghost escape = { escape_data };
 
-    fn stand_in(byte: u8) -> Option<&'static [u8]> {
+    #[inline]
+    fn replacement(byte: u8) -> Option<&'static [u8]> {
         match byte {
             b'&' => Some(b"&amp;"),
             b'<' => Some(b"&lt;"),
@@ -67,29 +69,30 @@ impl Escape for Data {
 }
 
 // The value of an attribute in XML.
-pub(crate) struct Quoted;
+pub(crate) struct AttributeValue;
 
-impl Escape for Quoted {
+impl Escape for AttributeValue {
     ghost escape = { escape_value };
 
-    fn stand_in(byte: u8) -> Option<&'static [u8]> {
+    #[inline]
+    fn replacement(byte: u8) -> Option<&'static [u8]> {
         match byte {
             b'"' => Some(b"&quot;"),
             b'\t' => Some(b"&#9;"),
             b'\n' => Some(b"&#10;"),
-            other => Data::stand_in(other),
+            other => CharacterData::replacement(other),
         }
     }
 }
 
 // The length of a front that stands as it is: all before the first byte that doesn't.
-#[tactic(auto, using(crate::proofs::Ranges::escaped_more))]
+#[tactic(auto, using(crate::proofs::Escaping::escaped_more))]
 fn plain_len<E: Escape>(bytes: &[u8]) -> usize
     ensures plain { flat_map E.escape bytes.now ≡ take result bytes.now ++ flat_map E.escape (drop result bytes.now) }
     ensures within { result ≤ length bytes.now }
 {
     for (len, byte) in bytes.iter().enumerate() {
-        if E::stand_in(*byte).is_some() {
+        if E::replacement(*byte).is_some() {
             return len;
         }
     }
@@ -100,7 +103,7 @@ fn push_escape<E: Escape>(out: &mut Vec<u8>, byte: u8) -> Result<(), NoMemory>
     ensures text { OnOk result (out.new.items ≡ out.old.items ++ E.escape byte) }
     ensures kept { Grew out.old.items out.new.items }
 {
-    match E::stand_in(byte) {
+    match E::replacement(byte) {
         Some(text) => push_bytes(out, text),
         None => push_byte(out, byte),
     }

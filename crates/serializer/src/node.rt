@@ -9,7 +9,7 @@ ghost use Rattle.tree_model.specs.Rows.{label_of, lines_of, ArePlaced};
 ghost use Rattle.serializer.specs.Growth.{Grew};
 ghost use Rattle.serializer.specs.Opened.{opens, tag_text, front_text, back_text, Ended, Then};
 
-use crate::escape::{Data, Quoted, push_byte, push_bytes, push_escaped};
+use crate::escape::{AttributeValue, CharacterData, push_byte, push_bytes, push_escaped};
 use crate::storage::{name_of, value_of};
 use tree_model::{Kind, NoMemory, Row, Text};
 
@@ -47,7 +47,7 @@ impl Table<'_> {
     {
         push_bytes(out, name_of(self.names, row))?;
         push_bytes(out, b"=\"")?;
-        push_escaped::<Quoted>(out, value_of(self.values, row))?;
+        push_escaped::<AttributeValue>(out, value_of(self.values, row))?;
         push_byte(out, b'"')
     }
 
@@ -132,7 +132,7 @@ impl Table<'_> {
         match row.kind {
             Kind::Doc => Ok(()),
             Kind::Elem => self.push_tag(row, attrs, out),
-            Kind::Text => push_escaped::<Data>(out, value_of(self.values, row)),
+            Kind::Text => push_escaped::<CharacterData>(out, value_of(self.values, row)),
             Kind::Attr => self.push_attribute(row, out),
             Kind::Comm => self.push_comment(row, out),
             Kind::Pi => self.push_instruction(row, out),

@@ -6,7 +6,7 @@ ghost use Rattle.tree_model.specs.Rows.{name_at, value_at, line_of, lines_of, Ar
 ghost use Rattle.tree_model.specs.Printed as printed;
 ghost use Rattle.serializer.specs.Growth.{Grew};
 
-use crate::escape::{Content, push_byte, push_bytes, push_escaped};
+use crate::escape::{RowContent, push_byte, push_bytes, push_escaped};
 use itoa::Buffer;
 use tree_model::{Kind, NoMemory, Row, Text};
 
@@ -50,9 +50,9 @@ fn push_attribute(out: &mut Vec<u8>, name: &[u8], value: &[u8]) -> Result<(), No
     ensures text { OnOk result (out.new.items ≡ out.old.items ++ printed.content_of Kind.Attr (local_name name.now) value.now) }
     ensures kept { Grew out.old.items out.new.items }
 {
-    push_escaped::<Content>(out, name)?;
+    push_escaped::<RowContent>(out, name)?;
     push_bytes(out, b"=\"")?;
-    push_escaped::<Content>(out, value)?;
+    push_escaped::<RowContent>(out, value)?;
     push_bytes(out, b"\"")
 }
 
@@ -61,12 +61,12 @@ fn push_instruction(out: &mut Vec<u8>, name: &[u8], value: &[u8]) -> Result<(), 
     ensures text { OnOk result (out.new.items ≡ out.old.items ++ printed.content_of Kind.Pi (local_name name.now) value.now) }
     ensures kept { Grew out.old.items out.new.items }
 {
-    push_escaped::<Content>(out, name)?;
+    push_escaped::<RowContent>(out, name)?;
     if value.is_empty() {
         return Ok(());
     }
     push_byte(out, b' ')?;
-    push_escaped::<Content>(out, value)
+    push_escaped::<RowContent>(out, value)
 }
 
 fn push_content(out: &mut Vec<u8>, kind: Kind, name: &[u8], value: &[u8]) -> Result<(), NoMemory>
@@ -74,10 +74,10 @@ fn push_content(out: &mut Vec<u8>, kind: Kind, name: &[u8], value: &[u8]) -> Res
     ensures kept { Grew out.old.items out.new.items }
 {
     match kind {
-        Kind::Elem => push_escaped::<Content>(out, name),
+        Kind::Elem => push_escaped::<RowContent>(out, name),
         Kind::Attr => push_attribute(out, name, value),
         Kind::Pi => push_instruction(out, name, value),
-        Kind::Doc | Kind::Text | Kind::Comm => push_escaped::<Content>(out, value),
+        Kind::Doc | Kind::Text | Kind::Comm => push_escaped::<RowContent>(out, value),
     }
 }
 

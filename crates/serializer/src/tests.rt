@@ -1,3 +1,5 @@
+ghost use Rattle.std.specs.Prelude.{◌<◌};
+
 use super::*;
 use std::test::Fail;
 use tree_model::{Kind, Row, Text, ValueRef};
@@ -82,34 +84,73 @@ fn empty_ranges(rt: HostRuntime) -> Result<(), Fail> {
     Ok(())
 }
 
-// The rows of a document `d.xml` that spells
-// `<r a="…" b=""><e/><m>x &amp; y<n>deep</n></m><!--a < b--><?go?><?go on?></r>`; the value of `a` has all that an
-// attribute's value needs references for, and the text below `n` the rest.
-fn xml(rt: &HostRuntime, before: &[u8], pre: u32) -> Result<Vec<u8>, Fail> {
-    let row = |kind, name, dist, size, asize, at, len| Row {
-        kind,
-        name,
-        dist,
-        size,
-        asize,
-        id: 0,
-        val: ValueRef { at, len },
-    };
+// What stands in a buffer with these bytes once a node is printed to it. The document `d.xml` has an element `r` with the
+// attributes `a` and `b`. In it stand an empty element `e`, an element `m` with a text, a comment, and an instruction `go`
+// without and with a value. The value of `a` and the text have all bytes that don't stand as they are.
+fn xml(rt: &HostRuntime, before: &[u8], pre: u32) -> Result<Vec<u8>, Fail>
+    requires { pre < 10 }
+{
     let rows = [
-        row(Kind::Doc, 0, 0, 14, 1, 0, 5),
-        row(Kind::Elem, 1, 1, 13, 3, 0, 0),
-        row(Kind::Attr, 2, 1, 1, 1, 5, 8),
-        row(Kind::Attr, 3, 2, 1, 1, 0, 0),
-        row(Kind::Elem, 4, 3, 1, 1, 0, 0),
-        row(Kind::Elem, 5, 4, 5, 1, 0, 0),
-        row(Kind::Text, 0, 1, 1, 1, 13, 5),
-        row(Kind::Elem, 6, 2, 3, 1, 0, 0),
-        row(Kind::Elem, 4, 1, 2, 1, 0, 0),
-        row(Kind::Text, 0, 1, 1, 1, 18, 4),
-        row(Kind::Comm, 0, 9, 1, 1, 22, 5),
-        row(Kind::Pi, 7, 10, 1, 1, 0, 0),
-        row(Kind::Pi, 7, 11, 1, 1, 27, 2),
-        row(Kind::Elem, 4, 12, 1, 1, 0, 0),
+        Row {
+            kind: Kind::Doc,
+            dist: 0,
+            size: 10,
+            val: ValueRef { at: 0, len: 5 },
+            ..LEAF
+        },
+        Row {
+            name: 1,
+            size: 9,
+            asize: 3,
+            ..LEAF
+        },
+        Row {
+            kind: Kind::Attr,
+            name: 2,
+            val: ValueRef { at: 5, len: 8 },
+            ..LEAF
+        },
+        Row {
+            kind: Kind::Attr,
+            name: 3,
+            dist: 2,
+            ..LEAF
+        },
+        Row {
+            name: 4,
+            dist: 3,
+            ..LEAF
+        },
+        Row {
+            name: 5,
+            dist: 4,
+            size: 2,
+            ..LEAF
+        },
+        Row {
+            kind: Kind::Text,
+            val: ValueRef { at: 13, len: 7 },
+            ..LEAF
+        },
+        Row {
+            kind: Kind::Comm,
+            dist: 6,
+            val: ValueRef { at: 20, len: 5 },
+            ..LEAF
+        },
+        Row {
+            kind: Kind::Pi,
+            name: 6,
+            dist: 7,
+            ..LEAF
+        },
+        Row {
+            kind: Kind::Pi,
+            name: 6,
+            dist: 8,
+            val: ValueRef { at: 25, len: 2 },
+            ..LEAF
+        },
     ];
     let names = vec![in rt.alloc();
         Text::of(rt.alloc(), "")?,
@@ -118,32 +159,40 @@ fn xml(rt: &HostRuntime, before: &[u8], pre: u32) -> Result<Vec<u8>, Fail> {
         Text::of(rt.alloc(), "b")?,
         Text::of(rt.alloc(), "e")?,
         Text::of(rt.alloc(), "m")?,
-        Text::of(rt.alloc(), "n")?,
         Text::of(rt.alloc(), "go")?,
     ]?;
     let mut out = before.to_vec(rt.alloc())?;
-    print_node(&rows, &names, b"d.xml&<>\"\t\n\r'x & y<>\r\na < bon", pre, &mut out)?;
+    print_node(
+        &rows,
+        &names,
+        b"d.xml&<>\"\t\n\r'x&<>\r\n\"a < bon",
+        pre,
+        &mut out,
+    )?;
     Ok(out)
 }
 
-const R: &[u8] = b"<r a=\"&amp;&lt;&gt;&quot;&#9;&#10;&#13;'\" b=\"\"><e/><m>x &amp; y<n><e>&lt;&gt;&#13;\n</e></n></m><!--a < b--><?go?><?go on?><e/></r>";
-
 #[test]
 fn a_document_is_its_content(rt: HostRuntime) -> Result<(), Fail> {
-    assert_eq!(rt; xml(&rt, b"", 0)?.as_slice(), R);
-    assert_eq!(rt; xml(&rt, b"", 1)?.as_slice(), R);
+    let all =
+        b"<r a=\"&amp;&lt;&gt;&quot;&#9;&#10;&#13;'\" b=\"\"><e/><m>x&amp;&lt;&gt;&#13;\n\"</m><!--a < b--><?go?><?go on?></r>";
+    assert_eq!(rt; xml(&rt, b"", 0)?.as_slice(), all.as_slice());
+    assert_eq!(rt; xml(&rt, b"", 1)?.as_slice(), all.as_slice());
     Ok(())
 }
 
 #[test]
 fn nodes_behind_other_bytes(rt: HostRuntime) -> Result<(), Fail> {
-    assert_eq!(rt;
-        xml(&rt, b"ok\n", 5)?.as_slice(),
-        b"ok\n<m>x &amp; y<n><e>&lt;&gt;&#13;\n</e></n></m>".as_slice()
-    );
+    assert_eq!(rt; xml(&rt, b"ok\n", 3)?.as_slice(), b"ok\nb=\"\"".as_slice());
     assert_eq!(rt; xml(&rt, b".", 4)?.as_slice(), b".<e/>".as_slice());
-    assert_eq!(rt; xml(&rt, b".", 6)?.as_slice(), b".x &amp; y".as_slice());
-    assert_eq!(rt; xml(&rt, b".", 3)?.as_slice(), b".b=\"\"".as_slice());
-    assert_eq!(rt; xml(&rt, b".", 12)?.as_slice(), b".<?go on?>".as_slice());
+    assert_eq!(rt;
+        xml(&rt, b".", 5)?.as_slice(),
+        b".<m>x&amp;&lt;&gt;&#13;\n\"</m>".as_slice()
+    );
+    assert_eq!(rt;
+        xml(&rt, b".", 6)?.as_slice(),
+        b".x&amp;&lt;&gt;&#13;\n\"".as_slice()
+    );
+    assert_eq!(rt; xml(&rt, b".", 9)?.as_slice(), b".<?go on?>".as_slice());
     Ok(())
 }

@@ -1,4 +1,4 @@
-use Rattle.std.proofs.Common.{◌<◌, ◌∙◌, sym, refl, arith}
+use Rattle.std.proofs.Common.{◌∙◌, sym, refl, arith}
 use Rattle.serializer.proofs.Growing.{grew_none, grew_twice}
 use Rattle.serializer.proofs.Ranges.{placed_at, placed_within}
 use Rattle.serializer.proofs.Walk.{begun, turn, some_turn, then_whole, then_ahead}
@@ -54,6 +54,6 @@ loop-at-smaller c = let now = (some_turn c.args.names.now c.args.values.now c.ar
 pub loop-at-preserved : goal.loop-at-preserved
 loop-at-preserved c = record {
   ahead = λ node there at.
-    then_ahead _ _ _ _ _ _ (c.in_ok-push_ends.ensures.text _ ((turn c.args.names.now c.args.values.now c.args.rows.now _ _ _ _ (c.loop-at.invariant.ahead node there at)).printed _ _ c.attributes.ensures (sym c.opens.ensures ∙ c.if-opens.false) c.in_ok-push_front.ensures.text)) c.if-branch.false;
+      then_ahead _ _ _ _ _ _ (c.in_ok-push_ends.ensures.text _ ((turn c.args.names.now c.args.values.now c.args.rows.now _ _ _ _ (c.loop-at.invariant.ahead node there at)).printed _ _ c.attributes.ensures (sym c.opens.ensures ∙ c.if-opens.false) c.in_ok-push_front.ensures.text)) c.if-branch.false;
   kept = grew_twice _ _ _ c.loop-at.invariant.kept (grew_twice _ _ _ c.push_front.ensures.kept c.push_ends.ensures.kept);
 }

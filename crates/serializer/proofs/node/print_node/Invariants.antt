@@ -1,4 +1,4 @@
-use Rattle.std.proofs.Common.{◌≡◌, ℕ, List, ◌-◌, ◌++◌, length}
+use Rattle.std.proofs.Common.{◌≡◌, ◌-◌, ◌++◌, length}
 use Rattle.std.specs.List.{Contains}
 use Rattle.tree_model.specs.Forest.{grove_of}
 use Rattle.tree_model.specs.Labels.{Label}

@@ -1,7 +1,7 @@
-use Rattle.std.proofs.Common.{◌<◌, ◌≤◌, ◌-◌, length, get_or, arith}
+use Rattle.std.proofs.Common.{arith}
 use Rattle.serializer.proofs.Growing.{grew_twice}
 use Rattle.serializer.proofs.Ranges.{placed_at}
-use Rattle.serializer.proofs.Walk.{Inside, inside, all_over}
+use Rattle.serializer.proofs.Walk.{inside, all_over}
 use Rattle.serializer.proofs.node.Table.push_ends.Goals as goal
 
 pub offset_bounds-self-inner : goal.offset_bounds-self-inner
@@ -51,8 +51,8 @@ loop-inner-smaller c =
 pub loop-inner-preserved : goal.loop-inner-preserved
 loop-inner-preserved c = record {
   ended = λ whole w.
-    let t = c.args.self.now in
-    (inside t.names.now t.values.now t.rows.now _ _ _ _ _ (c.loop-inner.invariant.ended whole w) c.loop-inner-test.true).ends _ c.if-inner-row.false c.in_ok-push_end.ensures.text;
+      let t = c.args.self.now in
+      (inside t.names.now t.values.now t.rows.now _ _ _ _ _ (c.loop-inner.invariant.ended whole w) c.loop-inner-test.true).ends _ c.if-inner-row.false c.in_ok-push_end.ensures.text;
   kept = grew_twice _ _ _ c.loop-inner.invariant.kept c.push_end.ensures.kept;
 }
 
