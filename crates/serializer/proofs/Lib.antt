@@ -1,2 +1,4 @@
+pub mod Escaping
 pub mod Growing
 pub mod Ranges
+pub mod Walk

@@ -1,13 +1,12 @@
 -- The text of a range of rows, row by row.
 use Rattle.std.proofs.Common.{◌≡◌, ◌≢◌, ◌⊎◌, inl, inr, ℕ, zero, suc, ◌+◌, ◌-◌, ◌<◌, ◌≤◌, min, List, [], ◌∷◌, ◌++◌, length, get_or, take, drop, drop-cons, add-one, append_assoc, append-nil, length-drop, refl, ap, sym, ◌∙◌, arith}
-use Rattle.std.proofs.Math.Seq.{take-suc}
 use Rattle.std.specs.List.{join_with_byte}
 use Rattle.std.proofs.lemmas.List.{drop_all, drop-map, take-map, take_min, length-map}
 use Rattle.std.proofs.lemmas.Bool.{cases_lt}
 use Rattle.tree_model.specs.Forest.{Line, grove_of, IsFlat}
 use Rattle.tree_model.specs.Labels.{Label}
 use Rattle.tree_model.specs.Rows.{line_of, lines_of, ArePlaced}
-use Rattle.tree_model.specs.Printed.{escape, escaped, row_text, row_texts, range_text}
+use Rattle.tree_model.specs.Printed.{row_text, row_texts, range_text}
 use Rattle.tree_model.specs.declared.row.Row.{Row}
 
 -- the lines from a place on, each behind an LF
@@ -127,13 +126,9 @@ range_printed names values rows out before i pre from to start end flat e f past
     ∙ same_rows (lines_of names values rows) from to start end (e ∙ ap (λ n. min n to) (sym (length-map rows (line_of names values)))) f
     ∙ ap (λ l. row_texts from (take (to - from) (drop from l))) (sym flat))
 
--- a front that is printed as it is, and one byte more
-pub escaped_more : (bytes : List ℕ) (i : ℕ) → i < length bytes → escape (get_or bytes i 0) ≡ get_or bytes i 0 ∷ [] → escaped bytes ≡ take i bytes ++ escaped (drop i bytes)
-    → escaped bytes ≡ take (i + 1) bytes ++ escaped (drop (i + 1) bytes)
-escaped_more bytes i lt plain so_far =
-    let b : ℕ = get_or bytes i 0 in
-    let behind : escaped (drop i bytes) ≡ b ∷ escaped (drop (suc i) bytes) =
-    ap escaped (drop-cons bytes i 0 lt) ∙ ap (λ e. e ++ escaped (drop (suc i) bytes)) plain in
-    let front : take (suc i) bytes ++ escaped (drop (suc i) bytes) ≡ take i bytes ++ (b ∷ escaped (drop (suc i) bytes)) =
-    ap (λ l. l ++ escaped (drop (suc i) bytes)) (take-suc bytes i 0 lt) ∙ append_assoc (take i bytes) (b ∷ []) (escaped (drop (suc i) bytes)) in
-    rw add-one (so_far ∙ ap (λ l. take i bytes ++ l) behind ∙ sym front)
+-- of the row at a place
+pub placed_at : (names : List (List ℕ)) (values : List ℕ) (rows : List Row) (i : ℕ) (z : Row) → ArePlaced names values rows → i < length rows
+    → ((get_or rows i z).name < length names) × ((get_or rows i z).val.at + (get_or rows i z).val.len ≤ length values)
+placed_at names values [] i z placed lt = absurd (omega arith)
+placed_at names values (row ∷ rows) zero z placed lt = (placed.0, placed.1)
+placed_at names values (row ∷ rows) (suc i) z placed lt = placed_at names values rows i z placed.2 (omega arith)

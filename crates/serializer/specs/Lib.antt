@@ -1,2 +1,3 @@
--- What becomes of bytes that are written to.
+-- What becomes of bytes that are written to, and what is left of a node that is partly printed.
 pub mod Growth
+pub mod Opened

@@ -6,6 +6,7 @@ ghost use Rattle.tree_model.specs.Rows.{name_at, value_at, line_of, lines_of, Ar
 ghost use Rattle.tree_model.specs.Printed as printed;
 ghost use Rattle.serializer.specs.Growth.{Grew};
 
+use crate::escape::{RowContent, push_byte, push_bytes, push_escaped};
 use itoa::Buffer;
 use tree_model::{Kind, NoMemory, Row, Text};
 
@@ -20,74 +21,6 @@ fn kind_word(kind: Kind) -> &'static str
         Kind::Comm => "comm",
         Kind::Pi => "pi",
     }
-}
-
-// Whether a byte is printed as it is.
-fn is_plain(byte: u8) -> bool
-    ensures { IsTrue result → printed.escape byte ≡ byte ∷ [] }
-{
-    !matches!(byte, b'\\' | b'\n' | b'\r' | b'\t')
-}
-
-// The length of a front that is printed as it is: all before the first byte that isn't.
-#[tactic(auto, using(crate::proofs::Ranges::escaped_more))]
-fn plain_len(bytes: &[u8]) -> usize
-    ensures plain { printed.escaped bytes.now ≡ take result bytes.now ++ printed.escaped (drop result bytes.now) }
-    ensures within { result ≤ length bytes.now }
-{
-    for (len, byte) in bytes.iter().enumerate() {
-        if !is_plain(*byte) {
-            return len;
-        }
-    }
-    bytes.len()
-}
-
-#[tactic(auto, using(crate::proofs::Growing::grew_by, crate::proofs::Growing::grew_none))]
-fn push_bytes(out: &mut Vec<u8>, bytes: &[u8]) -> Result<(), NoMemory>
-    ensures text { OnOk result (out.new.items ≡ out.old.items ++ bytes.now) }
-    ensures kept { Grew out.old.items out.new.items }
-{
-    out.extend_from_slice(bytes)
-}
-
-#[tactic(auto, using(crate::proofs::Growing::grew_by, crate::proofs::Growing::grew_none))]
-fn push_byte(out: &mut Vec<u8>, byte: u8) -> Result<(), NoMemory>
-    ensures text { OnOk result (out.new.items ≡ out.old.items ++ byte ∷ []) }
-    ensures kept { Grew out.old.items out.new.items }
-{
-    Ok(out.push(byte)?)
-}
-
-fn push_escape(out: &mut Vec<u8>, byte: u8) -> Result<(), NoMemory>
-    ensures text { OnOk result (out.new.items ≡ out.old.items ++ printed.escape byte) }
-    ensures kept { Grew out.old.items out.new.items }
-{
-    match byte {
-        b'\\' => push_bytes(out, b"\\\\"),
-        b'\n' => push_bytes(out, b"\\n"),
-        b'\r' => push_bytes(out, b"\\r"),
-        b'\t' => push_bytes(out, b"\\t"),
-        other => push_byte(out, other),
-    }
-}
-
-#[tactic(auto, using(crate::proofs::Growing::grew_none, crate::proofs::Growing::grew_twice))]
-fn push_escaped(out: &mut Vec<u8>, bytes: &[u8]) -> Result<(), NoMemory>
-    ensures text { OnOk result (out.new.items ≡ out.old.items ++ printed.escaped bytes.now) }
-    ensures kept { Grew out.old.items out.new.items }
-{
-    let mut rest = bytes;
-    while !rest.is_empty() {
-        let (plain, behind) = rest.split_at(plain_len(rest));
-        push_bytes(out, plain)?;
-        let [first, more @ ..] = behind else {
-            return Ok(());
-        };
-        push_escape(out, *first)?;
-        rest = more;
-    }
-    Ok(())
 }
 
 /// Appends a number in decimal. After `NoMemory` a part of it may stand behind what `out` had before.
@@ -117,9 +50,9 @@ fn push_attribute(out: &mut Vec<u8>, name: &[u8], value: &[u8]) -> Result<(), No
     ensures text { OnOk result (out.new.items ≡ out.old.items ++ printed.content_of Kind.Attr (local_name name.now) value.now) }
     ensures kept { Grew out.old.items out.new.items }
 {
-    push_escaped(out, name)?;
+    push_escaped::<RowContent>(out, name)?;
     push_bytes(out, b"=\"")?;
-    push_escaped(out, value)?;
+    push_escaped::<RowContent>(out, value)?;
     push_bytes(out, b"\"")
 }
 
@@ -128,12 +61,12 @@ fn push_instruction(out: &mut Vec<u8>, name: &[u8], value: &[u8]) -> Result<(), 
     ensures text { OnOk result (out.new.items ≡ out.old.items ++ printed.content_of Kind.Pi (local_name name.now) value.now) }
     ensures kept { Grew out.old.items out.new.items }
 {
-    push_escaped(out, name)?;
+    push_escaped::<RowContent>(out, name)?;
     if value.is_empty() {
         return Ok(());
     }
     push_byte(out, b' ')?;
-    push_escaped(out, value)
+    push_escaped::<RowContent>(out, value)
 }
 
 fn push_content(out: &mut Vec<u8>, kind: Kind, name: &[u8], value: &[u8]) -> Result<(), NoMemory>
@@ -141,10 +74,10 @@ fn push_content(out: &mut Vec<u8>, kind: Kind, name: &[u8], value: &[u8]) -> Res
     ensures kept { Grew out.old.items out.new.items }
 {
     match kind {
-        Kind::Elem => push_escaped(out, name),
+        Kind::Elem => push_escaped::<RowContent>(out, name),
         Kind::Attr => push_attribute(out, name, value),
         Kind::Pi => push_instruction(out, name, value),
-        Kind::Doc | Kind::Text | Kind::Comm => push_escaped(out, value),
+        Kind::Doc | Kind::Text | Kind::Comm => push_escaped::<RowContent>(out, value),
     }
 }
 
@@ -163,14 +96,14 @@ fn push_head(out: &mut Vec<u8>, pre: u64, row: &Row) -> Result<(), NoMemory>
     push_byte(out, b' ')
 }
 
-fn name_of<'a>(names: &'a [Text], row: &Row) -> &'a [u8]
+pub(crate) fn name_of<'a>(names: &'a [Text], row: &Row) -> &'a [u8]
     requires { row.now.name < length names.now }
     ensures { result.now ≡ name_at names.now row.now.name }
 {
     names[row.name as usize].as_str().as_bytes()
 }
 
-fn value_of<'a>(values: &'a [u8], row: &Row) -> &'a [u8]
+pub(crate) fn value_of<'a>(values: &'a [u8], row: &Row) -> &'a [u8]
     requires { row.now.val.at + row.now.val.len ≤ length values.now }
     ensures { result.now ≡ value_at values.now row.now.val }
 {

@@ -1,0 +1,15 @@
+use Rattle.std.proofs.Common.{ℕ, List}
+use Rattle.tree_model.specs.Rows.{lines_of}
+use Rattle.serializer.specs.Growth.{Grew}
+use Rattle.serializer.specs.Opened.{Ended}
+use Rattle.serializer.proofs.node.Table.push_ends.Given as goal
+
+abbrev pub invariant-loop-inner : goal.invariant-loop-inner
+invariant-loop-inner l = record {
+  ended : (whole : List ℕ) → Ended (lines_of l.self.names.now l.self.values.now l.self.rows.now) l.top l.last l.end l.fn.out.items whole
+      → Ended (lines_of l.self.names.now l.self.values.now l.self.rows.now) l.top l.inner l.end l.out.items whole;
+  kept : Grew l.fn.out.items l.out.items;
+}
+
+abbrev pub decreases-loop-inner : goal.decreases-loop-inner
+decreases-loop-inner l = l.inner

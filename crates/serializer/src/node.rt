@@ -1,0 +1,221 @@
+// The text of one node as XML.
+ghost use Rattle.std.specs.Prelude.{◌≡◌, ℕ, ◌+◌, ◌≤◌, ◌<◌, ◌++◌, List, ◌∷◌, length, map, slice_range, nat_lt, codes, OnOk, IfOk};
+ghost use Rattle.std.specs.List.{Contains, flat_map};
+ghost use Rattle.tree_model.specs.Forest.{grove_of, IsFlat};
+ghost use Rattle.tree_model.specs.Labels.{Label};
+ghost use Rattle.tree_model.specs.Nodes.{Node, nodes};
+ghost use Rattle.tree_model.specs.Printing.{node_text, start_text, attr_text, pi_text};
+ghost use Rattle.tree_model.specs.Rows.{label_of, lines_of, ArePlaced};
+ghost use Rattle.serializer.specs.Growth.{Grew};
+ghost use Rattle.serializer.specs.Opened.{opens, tag_text, front_text, back_text, Ended, Then};
+
+use crate::escape::{AttributeValue, CharacterData, push_byte, push_bytes, push_escaped};
+use crate::storage::{name_of, value_of};
+use tree_model::{Kind, NoMemory, Row, Text};
+
+// Whether the rows below a row, its attributes aside, are printed too.
+fn opens(row: &Row) -> bool
+    ensures { result ≡ opens row.now.kind row.now.asize row.now.size }
+{
+    matches!(row.kind, Kind::Doc | Kind::Elem) && row.asize < row.size
+}
+
+// The attributes of the element at `at`.
+fn attributes(rows: &[Row], at: usize, asize: u32) -> &[Row]
+    requires own { 0 < asize }
+    requires within { at + asize ≤ length rows.now }
+    ensures { result.now ≡ slice_range rows.now (at + 1) (at + asize) }
+{
+    &rows[at + 1..at + asize as usize]
+}
+
+// The rows of a table with what their numbers stand for.
+#[derive(Clone, Copy)]
+struct Table<'a> {
+    rows: &'a [Row],
+    names: &'a [Text],
+    values: &'a [u8],
+}
+
+impl Table<'_> {
+    #[tactic(auto, using(crate::proofs::Growing::grew_twice))]
+    fn push_attribute(&self, row: &Row, out: &mut Vec<u8>) -> Result<(), NoMemory>
+        requires name { row.now.name < length self.now.names.now }
+        requires value { row.now.val.at + row.now.val.len ≤ length self.now.values.now }
+        ensures text { OnOk result (out.new.items ≡ out.old.items ++ attr_text (label_of self.now.names.now self.now.values.now row.now)) }
+        ensures kept { Grew out.old.items out.new.items }
+    {
+        push_bytes(out, name_of(self.names, row))?;
+        push_bytes(out, b"=\"")?;
+        push_escaped::<AttributeValue>(out, value_of(self.values, row))?;
+        push_byte(out, b'"')
+    }
+
+    // Each attribute behind a space.
+    fn push_attributes(&self, attrs: &[Row], out: &mut Vec<u8>) -> Result<(), NoMemory>
+        requires placed { ArePlaced self.now.names.now self.now.values.now attrs.now }
+        ensures text { OnOk result (out.new.items ≡ out.old.items ++ flat_map (λ attr. 32 ∷ attr_text attr) (map (label_of self.now.names.now self.now.values.now) attrs.now)) }
+        ensures kept { Grew out.old.items out.new.items }
+    {
+        for row in attrs {
+            push_byte(out, b' ')?;
+            self.push_attribute(row, out)?;
+        }
+        Ok(())
+    }
+
+    #[tactic(auto, using(crate::proofs::Growing::grew_twice))]
+    fn push_start(&self, row: &Row, attrs: &[Row], out: &mut Vec<u8>) -> Result<(), NoMemory>
+        requires name { row.now.name < length self.now.names.now }
+        requires placed { ArePlaced self.now.names.now self.now.values.now attrs.now }
+        ensures text { OnOk result (out.new.items ≡ out.old.items ++ start_text (label_of self.now.names.now self.now.values.now row.now) (map (label_of self.now.names.now self.now.values.now) attrs.now)) }
+        ensures kept { Grew out.old.items out.new.items }
+    {
+        push_byte(out, b'<')?;
+        push_bytes(out, name_of(self.names, row))?;
+        self.push_attributes(attrs, out)
+    }
+
+    #[tactic(auto, using(crate::proofs::Growing::grew_twice))]
+    fn push_comment(&self, row: &Row, out: &mut Vec<u8>) -> Result<(), NoMemory>
+        requires value { row.now.val.at + row.now.val.len ≤ length self.now.values.now }
+        ensures text { OnOk result (out.new.items ≡ out.old.items ++ (codes "<!--" ++ ((label_of self.now.names.now self.now.values.now row.now).value ++ codes "-->"))) }
+        ensures kept { Grew out.old.items out.new.items }
+    {
+        push_bytes(out, b"<!--")?;
+        push_bytes(out, value_of(self.values, row))?;
+        push_bytes(out, b"-->")
+    }
+
+    #[tactic(auto, using(crate::proofs::Growing::grew_twice))]
+    fn push_instruction(&self, row: &Row, out: &mut Vec<u8>) -> Result<(), NoMemory>
+        requires name { row.now.name < length self.now.names.now }
+        requires value { row.now.val.at + row.now.val.len ≤ length self.now.values.now }
+        ensures text { OnOk result (out.new.items ≡ out.old.items ++ pi_text (label_of self.now.names.now self.now.values.now row.now)) }
+        ensures kept { Grew out.old.items out.new.items }
+    {
+        push_bytes(out, b"<?")?;
+        push_bytes(out, name_of(self.names, row))?;
+        let value = value_of(self.values, row);
+        if value.is_empty() {
+            return push_bytes(out, b"?>");
+        }
+        push_byte(out, b' ')?;
+        push_bytes(out, value)?;
+        push_bytes(out, b"?>")
+    }
+
+    // An element's tag: a start tag where it has children, else the only tag.
+    #[tactic(auto, using(crate::proofs::Growing::grew_twice))]
+    fn push_tag(&self, row: &Row, attrs: &[Row], out: &mut Vec<u8>) -> Result<(), NoMemory>
+        requires name { row.now.name < length self.now.names.now }
+        requires placed { ArePlaced self.now.names.now self.now.values.now attrs.now }
+        ensures text { OnOk result (out.new.items ≡ out.old.items ++ tag_text (label_of self.now.names.now self.now.values.now row.now) (map (label_of self.now.names.now self.now.values.now) attrs.now) (nat_lt row.now.asize row.now.size)) }
+        ensures kept { Grew out.old.items out.new.items }
+    {
+        self.push_start(row, attrs, out)?;
+        if row.asize < row.size {
+            return push_byte(out, b'>');
+        }
+        push_bytes(out, b"/>")
+    }
+
+    // A node up to its children: all of it where they aren't printed.
+    #[tactic(auto, using(crate::proofs::Growing::grew_none))]
+    fn push_front(&self, row: &Row, attrs: &[Row], out: &mut Vec<u8>) -> Result<(), NoMemory>
+        requires name { row.now.name < length self.now.names.now }
+        requires value { row.now.val.at + row.now.val.len ≤ length self.now.values.now }
+        requires placed { ArePlaced self.now.names.now self.now.values.now attrs.now }
+        ensures text { OnOk result (out.new.items ≡ out.old.items ++ front_text (label_of self.now.names.now self.now.values.now row.now) (map (label_of self.now.names.now self.now.values.now) attrs.now) (nat_lt row.now.asize row.now.size)) }
+        ensures kept { Grew out.old.items out.new.items }
+    {
+        match row.kind {
+            Kind::Doc => Ok(()),
+            Kind::Elem => self.push_tag(row, attrs, out),
+            Kind::Text => push_escaped::<CharacterData>(out, value_of(self.values, row)),
+            Kind::Attr => self.push_attribute(row, out),
+            Kind::Comm => self.push_comment(row, out),
+            Kind::Pi => self.push_instruction(row, out),
+        }
+    }
+
+    // What stands behind the children of a node.
+    #[tactic(auto, using(crate::proofs::Growing::grew_none, crate::proofs::Growing::grew_twice))]
+    fn push_end(&self, row: &Row, out: &mut Vec<u8>) -> Result<(), NoMemory>
+        requires name { row.now.name < length self.now.names.now }
+        ensures text { OnOk result (out.new.items ≡ out.old.items ++ back_text (label_of self.now.names.now self.now.values.now row.now)) }
+        ensures kept { Grew out.old.items out.new.items }
+    {
+        if row.kind != Kind::Elem {
+            return Ok(());
+        }
+        push_bytes(out, b"</")?;
+        push_bytes(out, name_of(self.names, row))?;
+        push_byte(out, b'>')
+    }
+
+    // Ends each node that ends at `end` as the node at `last` does, the innermost first and none about the node at `top`.
+    // Answers whether that one is among them.
+    fn push_ends(
+        &self,
+        top: usize,
+        last: usize,
+        end: usize,
+        out: &mut Vec<u8>,
+    ) -> Result<bool, NoMemory>
+        requires placed { ArePlaced self.now.names.now self.now.values.now self.now.rows.now }
+        requires ended { (whole : List ℕ) × Ended (lines_of self.now.names.now self.now.values.now self.now.rows.now) top last end out.old.items whole }
+        ensures text { IfOk result (λ all. (whole : List ℕ) → Ended (lines_of self.now.names.now self.now.values.now self.now.rows.now) top last end out.old.items whole → Then (lines_of self.now.names.now self.now.values.now self.now.rows.now) top end all out.new.items whole) }
+        ensures kept { Grew out.old.items out.new.items }
+    {
+        let mut inner = last;
+        while inner != top {
+            inner -= self.rows[inner].dist as usize;
+            let row = &self.rows[inner];
+            if inner + row.size as usize != end {
+                return Ok(false);
+            }
+            self.push_end(row, out)?;
+        }
+        Ok(true)
+    }
+}
+
+/// Appends the text of the node at `pre` as XML: an element with its attributes and all that is in it, or as an empty-element
+/// tag where nothing is; the content of a document, without its path; an attribute as `name="value"`. In character data `&`,
+/// `<`, `>` and CR stand as references, in the value of an attribute also the quote, TAB and LF. Nothing is declared or
+/// indented. After `NoMemory` a part of the text may stand behind what `out` had before.
+pub fn print_node(
+    rows: &[Row],
+    names: &[Text],
+    values: &[u8],
+    pre: u32,
+    out: &mut Vec<u8>,
+) -> Result<(), NoMemory>
+    requires placed { ArePlaced names.now values.now rows.now }
+    requires flat { IsFlat (lines_of names.now values.now rows.now) }
+    requires within { pre < length rows.now }
+    ensures text { OnOk result ((node : Node Label) → Contains (nodes (grove_of (lines_of names.now values.now rows.now))) node → node.place ≡ pre → out.new.items ≡ out.old.items ++ node_text node) }
+    ensures kept { Grew out.old.items out.new.items }
+{
+    let table = Table {
+        rows,
+        names,
+        values,
+    };
+    let top = pre as usize;
+    let mut at = top;
+    loop {
+        let row = &rows[at];
+        table.push_front(row, attributes(rows, at, row.asize), out)?;
+        if opens(row) {
+            at += row.asize as usize;
+            continue;
+        }
+        let end = at + row.size as usize;
+        if table.push_ends(top, at, end, out)? {
+            return Ok(());
+        }
+        at = end;
+    }
+}
