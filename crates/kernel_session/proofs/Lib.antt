@@ -8,3 +8,8 @@ pub mod Words
 pub mod Paths
 pub mod Contents
 pub mod Bases
+pub mod DocumentOrder
+pub mod Siblings
+pub mod Nodes
+pub mod ChildSteps
+pub mod Queries

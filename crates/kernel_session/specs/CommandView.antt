@@ -4,7 +4,7 @@ use Rattle.std.specs.Str.{IsUtf8}
 use Rattle.tree_model.specs.CodeTexts.{text_of_code}
 use Rattle.tree_model.specs.declared.code.Refusal.{Refusal}
 use Rattle.tree_model.specs.declared.code.Refusal.TheVariants as refusal
-use Rattle.kernel_session.specs.Commands.{Form, table, create, storage, list, exit, not_built, no_form, form_of, trimmed}
+use Rattle.kernel_session.specs.Commands.{Form, table, create, storage, list, query, exit, not_built, no_form, form_of, trimmed}
 use Rattle.kernel_session.specs.declared.command.Command.{Command}
 use Rattle.kernel_session.specs.declared.command.Command.TheVariants as command
 
@@ -13,6 +13,7 @@ form_of_command (command.Table xml) = table xml
 form_of_command (command.CreateDb name xml) = create name.now xml
 form_of_command (command.InfoStorage range) = storage range
 form_of_command command.List = list
+form_of_command (command.Query text) = query text
 form_of_command command.Exit = exit
 form_of_command command.NotBuilt = not_built
 

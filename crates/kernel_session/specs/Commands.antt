@@ -43,7 +43,7 @@ is_among words bytes = list_any (λ word. is_word word bytes) words
 -- the words with which the forms that aren't built yet begin
 abbrev pub later_words : List (List ℕ)
 later_words =
-    codes "check" ∷ codes "open" ∷ codes "close" ∷ codes "add" ∷ codes "delete" ∷ codes "replace" ∷ codes "rename" ∷ codes "xquery" ∷ codes "explain" ∷ codes "optimize" ∷ codes "export" ∷ []
+    codes "check" ∷ codes "open" ∷ codes "close" ∷ codes "add" ∷ codes "delete" ∷ codes "replace" ∷ codes "rename" ∷ codes "explain" ∷ codes "optimize" ∷ codes "export" ∷ []
 
 abbrev pub words_behind_drop : List (List ℕ)
 words_behind_drop = codes "db" ∷ codes "index" ∷ []
@@ -87,6 +87,7 @@ pub data Form : Type 0 where
   create : (name : List ℕ) → (xml : Option (List ℕ)) → Form
   storage : (range : Option (ℕ × ℕ)) → Form
   list : Form
+  query : (text : List ℕ) → Form
   exit : Form
   not_built : Form
   no_form : Form
@@ -119,6 +120,11 @@ abbrev pub list_form : List ℕ → Form
 list_form [] = list
 list_form (c ∷ words) = not_built
 
+-- XQUERY and what stands behind it
+abbrev pub query_form : List ℕ → Form
+query_form [] = no_form
+query_form (c ∷ words) = query (c ∷ words)
+
 abbrev pub exit_form : List ℕ → Form
 exit_form [] = exit
 exit_form (c ∷ words) = no_form
@@ -131,7 +137,7 @@ two_word_form first second words =
 -- a form by its first word, with what stands behind it
 abbrev pub form_by : List ℕ → List ℕ → Form
 form_by first words =
-    if is_word (codes "table") first then input_form words else if is_word (codes "list") first then list_form words else if is_word (codes "exit") first then exit_form words else two_word_form first (first_word words) (behind_word words)
+    if is_word (codes "table") first then input_form words else if is_word (codes "list") first then list_form words else if is_word (codes "exit") first then exit_form words else if is_word (codes "xquery") first then query_form words else two_word_form first (first_word words) (behind_word words)
 
 -- the form of a line without blanks at its ends
 abbrev pub form_of : List ℕ → Form

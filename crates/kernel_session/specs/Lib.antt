@@ -1,7 +1,10 @@
 -- Lines of a script, the commands in them, and the replies.
 pub mod Lines
 pub mod Commands
+pub mod Queries
 pub mod CommandView
+pub mod QueryView
+pub mod Places
 pub mod Replies
 pub mod ReplyView
 pub mod Steps

@@ -4,12 +4,15 @@ use Rattle.std.specs.List.{list_any}
 use Rattle.std.specs.Str.{IsUtf8}
 use Rattle.tree_model.specs.Forest.{Forest, none}
 use Rattle.tree_model.specs.Labels.{Label, with_path}
+use Rattle.tree_model.specs.Paths.{NodeTest, path_value}
 use Rattle.tree_model.specs.Printed.{rows_text, storage_text, list_text}
+use Rattle.tree_model.specs.Printing.{answer_text}
 use Rattle.tree_model.specs.Reads.{Reads, read_as, too_long, malformed, too_many_rows}
 use Rattle.tree_model.specs.States.{State, Base, is_base_name, default_path, new_base, with_new, IsOpened}
 use Rattle.kernel_session.specs.declared.command.Options.{Options}
-use Rattle.kernel_session.specs.Commands.{Form, table, create, storage, list, exit, not_built, no_form, form_of, trimmed, without_return}
+use Rattle.kernel_session.specs.Commands.{Form, table, create, storage, list, query, exit, not_built, no_form, form_of, trimmed, without_return}
 use Rattle.kernel_session.specs.CommandView.{IsNoCommand}
+use Rattle.kernel_session.specs.Queries.{path_of}
 use Rattle.kernel_session.specs.Replies.{Answer, accepted, refused}
 
 -- a byte of XML that isn't read yet: & ! ? = : CR, or one beyond ASCII
@@ -56,6 +59,9 @@ IsAccepted options state (table xml) payload state' = (f : Forest Label) × IsCo
 IsAccepted options state (create name xml) payload state' = (base : Base) × IsNewBase options.strip name xml base × (payload ≡ []) × (state' ≡ with_new base state)
 IsAccepted options state (storage range) payload state' = (base : Base) × IsOpened state base × (payload ≡ storage_text range base.documents) × (state' ≡ state)
 IsAccepted options state list payload state' = (payload ≡ list_text state.bases) × (state' ≡ state)
+-- the nodes that the path leads to from the documents of the open database
+IsAccepted options state (query text) payload state' =
+    (tests : List NodeTest) × (path_of text ≡ Some tests) × (base : Base) × IsOpened state base × (payload ≡ answer_text (path_value base.documents tests)) × (state' ≡ state)
 IsAccepted options state exit payload state' = (payload ≡ []) × (state' ≡ state)
 IsAccepted options state not_built payload state' = ⊥
 IsAccepted options state no_form payload state' = ⊥
@@ -66,6 +72,9 @@ IsRefused options state (table xml) code = ((has_later_byte xml ≡ true) × (co
 IsRefused options state (create name xml) code = IsCreateFault options.strip name xml code
 IsRefused options state (storage range) code = (state.opened ≡ None) × (code ≡ codes "XKDB0001")
 IsRefused options state list code = ⊥
+-- a query that isn't read yet; then none open
+IsRefused options state (query text) code =
+    ((path_of text ≡ None) × (code ≡ codes "XKCM0002")) ⊎ ((tests : List NodeTest) × (path_of text ≡ Some tests) × (state.opened ≡ None) × (code ≡ codes "XPDY0002"))
 IsRefused options state exit code = ⊥
 IsRefused options state not_built code = code ≡ codes "XKCM0002"
 IsRefused options state no_form code = ⊥
@@ -76,6 +85,7 @@ takes_memory (table xml) = true
 takes_memory (create name xml) = true
 takes_memory (storage range) = true
 takes_memory list = true
+takes_memory (query text) = true
 takes_memory exit = false
 takes_memory not_built = false
 takes_memory no_form = false

@@ -1,5 +1,5 @@
 // Commands, as lines hold them.
-ghost use Rattle.std.specs.Prelude.{◌≡◌, ◌≤◌, ◌^◌, ◌==◌, true, not, length};
+ghost use Rattle.std.specs.Prelude.{◌≡◌, ◌<◌, ◌≤◌, ◌^◌, ◌==◌, true, not, length};
 ghost use Rattle.std.specs.List.{list_all};
 ghost use Rattle.tree_model.specs.Sound as sound;
 ghost use Rattle.kernel_session.specs.Commands as read;
@@ -53,6 +53,41 @@ impl<'a> XmlText<'a> {
     }
 }
 
+/// The text of a query that a command was given: it isn't empty and has at most 2^24 bytes.
+#[derive(Drop)]
+pub struct QueryText<'a> {
+    text: &'a [u8],
+}
+
+impl<'a> Model for QueryText<'a> {
+    ghost use Rattle.std.specs.Prelude.{ℕ, List, ◌<◌, ◌≤◌, ◌^◌, length};
+
+    ghost Value = { List ℕ };
+
+    ghost view = { λ x. x.text.now };
+
+    ghost invariant = { λ x. (0 < length x.text.now) × (length x.text.now ≤ 2 ^ 24) };
+}
+
+impl<'a> QueryText<'a> {
+    fn new(text: &'a [u8]) -> QueryText<'a>
+        requires some { 0 < length text.now }
+        requires len { length text.now ≤ 2 ^ 24 }
+        ensures { result ≡ text.now }
+    {
+        QueryText { text }
+    }
+
+    /// The bytes of the text.
+    pub fn bytes(&self) -> &'a [u8]
+        ensures value { result.now ≡ self.now }
+        ensures some { 0 < length result.now }
+        ensures len { length result.now ≤ 2 ^ 24 }
+    {
+        self.text
+    }
+}
+
 /// A command with its words.
 #[derive(Drop)]
 pub enum Command<'a> {
@@ -67,6 +102,8 @@ pub enum Command<'a> {
     InfoStorage(Option<(Number, Number)>),
     /// `LIST`: a line for each database.
     List,
+    /// `XQUERY`: the nodes that a query leads to.
+    Query(QueryText<'a>),
     /// `EXIT`: the end of the session.
     Exit,
     /// A form that isn't built yet.
@@ -82,9 +119,8 @@ pub struct Options {
 }
 
 // The words with which the forms that aren't built yet begin.
-const LATER_WORDS: [&str; 11] = [
-    "check", "open", "close", "add", "delete", "replace", "rename", "xquery", "explain",
-    "optimize", "export",
+const LATER_WORDS: [&str; 10] = [
+    "check", "open", "close", "add", "delete", "replace", "rename", "explain", "optimize", "export",
 ];
 
 // Whether the first two words of a line are those of a form that isn't built yet.
@@ -195,6 +231,17 @@ fn storage_command(words: &[u8]) -> Option<Command<'_>>
     Some(Command::InfoStorage(Some((from, to))))
 }
 
+// The command XQUERY with this query.
+fn query_command(words: &[u8]) -> Option<Command<'_>>
+    requires { length words.now ≤ 2 ^ 24 }
+    ensures { form_of_read result ≡ read.query_form words.now }
+{
+    if words.is_empty() {
+        return None;
+    }
+    Some(Command::Query(QueryText::new(words)))
+}
+
 // The command that begins with these two words, with what stands behind them.
 fn two_word_command<'a>(first: &[u8], second: &[u8], words: &'a [u8]) -> Option<Command<'a>>
     requires { length words.now ≤ 2 ^ 24 }
@@ -227,6 +274,9 @@ fn command_of(line: &[u8]) -> Option<Command<'_>>
     }
     if is_word("exit", first) {
         return behind.is_empty().then_some(Command::Exit);
+    }
+    if is_word("xquery", first) {
+        return query_command(behind);
     }
     let (second, words) = split_word(behind);
     two_word_command(first, second, words)

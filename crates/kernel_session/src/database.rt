@@ -1,15 +1,22 @@
 // A database of a kernel.
-ghost use Rattle.std.specs.Prelude.{◌≡◌, ◌<◌, ◌^◌, ◌++◌, true, OnOk, length};
+ghost use Rattle.std.specs.Prelude.{◌≡◌, ◌<◌, ◌^◌, ◌++◌, true, OnOk, length, map};
+ghost use Rattle.std.specs.List.{All, join_with_byte};
 ghost use Rattle.std.specs.Str.{bytes_eq};
 ghost use Rattle.tree_model.specs.Forest.{count};
+ghost use Rattle.tree_model.specs.Paths.{path_value};
 ghost use Rattle.tree_model.specs.Printed.{base_text, rows_text, range_text};
+ghost use Rattle.tree_model.specs.Printing.{answer_text};
 ghost use Rattle.tree_model.specs.States.{is_base_name, new_base};
 ghost use Rattle.doc_import.specs.Imported.{IsBuilt, built_forest};
 ghost use Rattle.kernel_session.specs.Databases.{IsKeptBuilt};
+ghost use Rattle.kernel_session.specs.Places.{text_at};
+ghost use Rattle.kernel_session.specs.QueryView.{node_test};
 
+use crate::path::path_places;
+use crate::query::Test;
 use doc_import::Built;
-use serializer::{print_storage, push_number};
-use std::alloc::AllocError;
+use serializer::{print_node, print_storage, push_number};
+use std::alloc::{AllocError, Global};
 use std::marker::Model;
 
 /// A database: its name, the id that its next node gets, how many documents it has, and their rows. Contracts see the base.
@@ -88,6 +95,19 @@ impl Database {
         )
     }
 
+    /// Appends the nodes that a path leads to, joined by LF.
+    pub fn push_answer(
+        &self,
+        alloc: Global,
+        tests: &[Test<'_>],
+        out: &mut Vec<u8>,
+    ) -> Result<(), AllocError>
+        ensures { OnOk result (out.new.items ≡ out.old.items ++ answer_text (path_value self.now.documents (map node_test tests.now))) }
+    {
+        let places = path_places(alloc, &self.built, tests)?;
+        push_nodes(&self.built, &places, out)
+    }
+
     /// Appends the line `name documents rows`.
     pub fn push_line(&self, out: &mut Vec<u8>) -> Result<(), AllocError>
         ensures { OnOk result (out.new.items ≡ out.old.items ++ base_text self.now) }
@@ -114,4 +134,30 @@ pub fn push_all_rows(built: &Built, out: &mut Vec<u8>) -> Result<(), AllocError>
         built.rows.len() as u32,
         out,
     )
+}
+
+// Appends the XML text of the node at a place.
+fn push_node(built: &Built, place: u32, out: &mut Vec<u8>) -> Result<(), AllocError>
+    requires built { IsBuilt built.now }
+    requires within { place < length built.now.rows.items }
+    ensures { OnOk result (out.new.items ≡ out.old.items ++ text_at (built_forest built.now) place) }
+{
+    print_node(&built.rows, &built.names, &built.values, place, out)
+}
+
+// Appends the XML text of the nodes at these places, joined by LF.
+fn push_nodes(built: &Built, places: &[u32], out: &mut Vec<u8>) -> Result<(), AllocError>
+    requires built { IsBuilt built.now }
+    requires within { All (λ place. place < length built.now.rows.items) places.now }
+    ensures { OnOk result (out.new.items ≡ out.old.items ++ join_with_byte 10 (map (text_at (built_forest built.now)) places.now)) }
+{
+    let Some((first, rest)) = places.split_first() else {
+        return Ok(());
+    };
+    push_node(built, *first, out)?;
+    for place in rest {
+        out.push(b'\n')?;
+        push_node(built, *place, out)?;
+    }
+    Ok(())
 }

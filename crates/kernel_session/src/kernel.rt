@@ -9,7 +9,7 @@ ghost use Rattle.doc_import.specs.Imported.{IsBuilt, built_forest};
 ghost use Rattle.kernel_session.specs.CommandView.{form_of_command};
 ghost use Rattle.kernel_session.specs.Replies.{accepted, refused, IsText};
 ghost use Rattle.kernel_session.specs.ReplyView.{answer_of};
-ghost use Rattle.kernel_session.specs.Commands.{table, create, storage};
+ghost use Rattle.kernel_session.specs.Commands.{table, create, storage, query};
 ghost use Rattle.kernel_session.specs.Steps.{Step};
 
 use crate::command::{Command, Options, XmlText};
@@ -17,6 +17,7 @@ use crate::content::{has_later_byte, read_content};
 use crate::create::new_database;
 use crate::database::{Database, push_all_rows};
 use crate::number::Number;
+use crate::query::read_path;
 use crate::reply::Reply;
 use doc_import::Built;
 use std::alloc::{AllocError, Global};
@@ -177,6 +178,23 @@ impl Kernel {
         text_reply(text, written)
     }
 
+    // The reply to XQUERY.
+    fn query_reply(&self, alloc: Global, text: &[u8]) -> Reply
+        ensures { (options : Options) → Step options self.now (query text.now) (answer_of result) self.now }
+    {
+        let tests = match read_path(alloc, text) {
+            Ok(Some(tests)) => tests,
+            Ok(None) => return Reply::Err(Refusal::Code(Code::XKCM0002)),
+            Err(_e) => return Reply::Err(Refusal::NoMemory),
+        };
+        let Some(database) = self.database() else {
+            return Reply::Err(Refusal::Code(Code::XPDY0002));
+        };
+        let mut text = Vec::new(alloc);
+        let written = database.push_answer(alloc, &tests, &mut text);
+        text_reply(text, written)
+    }
+
     // Puts a database behind the others, drops the one of its name that was there, and opens it.
     fn add(&mut self, database: Database) -> Result<(), AllocError>
         ensures ok { OnOk result (self.new ≡ with_new database self.old) }
@@ -214,6 +232,7 @@ impl Kernel {
             Command::CreateDb { name, xml } => self.create(alloc, name, xml, options),
             Command::InfoStorage(range) => self.storage_reply(alloc, range),
             Command::List => self.list_reply(alloc),
+            Command::Query(text) => self.query_reply(alloc, text.bytes()),
             Command::Exit => Reply::Ok(Vec::new(alloc)),
             Command::NotBuilt => Reply::Err(Refusal::Code(Code::XKCM0002)),
         }

@@ -9,11 +9,14 @@ mod database;
 mod kernel;
 mod lines;
 mod number;
+mod order;
+mod path;
+mod query;
 mod reply;
 mod session;
 mod word;
 
-pub use command::{Command, Options, XmlText, read_command};
+pub use command::{Command, Options, QueryText, XmlText, read_command};
 pub use kernel::Kernel;
 pub use number::Number;
 pub use reply::Reply;

@@ -99,6 +99,19 @@ fn refused_databases_change_nothing(rt: HostRuntime) -> Result<(), Fail> {
 }
 
 #[test]
+fn paths_are_answered(rt: HostRuntime) -> Result<(), Fail> {
+    assert!(rt;
+        is_answered(
+            &rt,
+            b"XQUERY /a\nXQUERY 1\nXQUERY\nCREATE DB d <a><b>x</b><b/>y</a>\nXQUERY /a/b\nXQUERY /a/text()\nxquery  /a/b/text() \nXQUERY //b\nXQUERY /a/\nXQUERY /a b\nXQUERY /z\nXQUERY /a\n",
+            b"err XPDY0002\nerr XKCM0002\nerr XKCM0001\nok 0\n\nok 13\n<b>x</b>\n<b/>\nok 1\ny\nok 1\nx\nerr XKCM0002\nerr XKCM0002\nerr XKCM0002\nok 0\n\nok 20\n<a><b>x</b><b/>y</a>\n",
+            1,
+        )?
+    );
+    Ok(())
+}
+
+#[test]
 fn line_of_too_many_bytes(rt: HostRuntime) -> Result<(), Fail> {
     let mut script = vec![in rt.alloc(); b'x'; (1 << 24) + 1]?;
     script.extend_from_slice(b"\nTABLE <a/>")?;

@@ -1,0 +1,11 @@
+use Rattle.doc_import.specs.Imported.{built_forest}
+use Rattle.kernel_session.proofs.ChildSteps.{texts_written, rest_within}
+use Rattle.kernel_session.proofs.database.push_nodes.Goals as goal
+
+pub push_node-requires-in-loop-place-clause-within : goal.push_node-requires-in-loop-place-clause-within
+push_node-requires-in-loop-place-clause-within c = rest_within c.args.places.now c.in-Some.rest.now c.in-Some.first.now _ c.in-Some.ensures.cases.0 c.requires.within c.loop-place.place-index 0 c.loop-place-test.true
+
+pub returns : goal.returns
+returns c =
+    texts_written (built_forest c.args.built.now) c.args.places.now c.in-Some.rest.now c.in-Some.first.now c.args.out.now.items c.push_node.new.out.items c.loop-place.out.items c.loop-place.place-index
+    c.in-Some.ensures.cases.0 c.in_ok-push_node.ensures c.loop-place-test.false c.loop-place.invariant

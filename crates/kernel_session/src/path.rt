@@ -1,0 +1,164 @@
+// The nodes that a path leads to, by their places among the rows.
+ghost use Rattle.std.specs.Prelude.{◌≡◌, ◌<◌, ◌≤◌, ◌^◌, ◌++◌, [], length, map, OnOk, IfOk};
+ghost use Rattle.std.specs.List.{All, flat_map};
+ghost use Rattle.tree_model.specs.Paths as paths;
+ghost use Rattle.tree_model.specs.Rows.{label_of};
+ghost use Rattle.doc_import.specs.Imported.{IsBuilt, built_lines, built_forest};
+ghost use Rattle.kernel_session.specs.Places.{places_of, child_places, step_places, AreTrees, Turn, tops_between, passing_between, passes_at, place_if};
+ghost use Rattle.kernel_session.specs.QueryView.{node_test};
+
+use crate::order::in_document_order;
+use crate::query::Test;
+use doc_import::Built;
+use std::alloc::{AllocError, Global};
+use tree_model::{Kind, Row, Text};
+
+fn passes(test: &Test<'_>, row: &Row, names: &[Text]) -> bool
+    requires { row.now.name < length names.now }
+    ensures { result ≡ paths.passes (node_test test.now) (label_of names.now [] row.now) }
+{
+    match test {
+        Test::Name(local) => {
+            row.kind == Kind::Elem && names[row.name as usize].as_str().as_bytes() == *local
+        }
+        Test::Text => row.kind == Kind::Text,
+    }
+}
+
+fn passes_at(built: &Built, test: &Test<'_>, place: u32) -> bool
+    requires built { IsBuilt built.now }
+    requires within { place < length built.now.rows.items }
+    ensures { result ≡ passes_at (node_test test.now) (built_lines built.now) place }
+{
+    passes(test, &built.rows[place as usize], &built.names)
+}
+
+// Appends a place, if its node passes.
+fn push_if(
+    built: &Built,
+    test: &Test<'_>,
+    place: u32,
+    places: &mut Vec<u32>,
+) -> Result<(), AllocError>
+    requires built { IsBuilt built.now }
+    requires within { place < length built.now.rows.items }
+    ensures { OnOk result (places.new.items ≡ places.old.items ++ place_if (passes_at (node_test test.now) (built_lines built.now) place) place) }
+{
+    if passes_at(built, test, place) {
+        places.push(place)?;
+    }
+    Ok(())
+}
+
+// The place behind the tree at `at`, one of the trees up to `end`.
+fn behind_tree(built: &Built, at: u32, end: u32) -> u32
+    requires order { at < end }
+    requires within { end ≤ length built.now.rows.items }
+    requires trees { AreTrees (built_lines built.now) at end }
+    ensures { Turn (built_lines built.now) at end result }
+{
+    at + built.rows[at as usize].size
+}
+
+// Appends the places of the trees from one place up to another, without the nodes below them.
+fn push_tops(built: &Built, from: u32, end: u32, places: &mut Vec<u32>) -> Result<(), AllocError>
+    requires order { from ≤ end }
+    requires within { end ≤ length built.now.rows.items }
+    requires trees { AreTrees (built_lines built.now) from end }
+    ensures { OnOk result (places.new.items ≡ places.old.items ++ tops_between (built_lines built.now) from end) }
+{
+    let mut at = from;
+    while at < end {
+        places.push(at)?;
+        at = behind_tree(built, at, end);
+    }
+    Ok(())
+}
+
+// The same, of those trees that pass.
+fn push_passing(
+    built: &Built,
+    test: &Test<'_>,
+    from: u32,
+    end: u32,
+    places: &mut Vec<u32>,
+) -> Result<(), AllocError>
+    requires built { IsBuilt built.now }
+    requires order { from ≤ end }
+    requires within { end ≤ length built.now.rows.items }
+    requires trees { AreTrees (built_lines built.now) from end }
+    ensures { OnOk result (places.new.items ≡ places.old.items ++ passing_between (node_test test.now) (built_lines built.now) from end) }
+{
+    let mut at = from;
+    while at < end {
+        push_if(built, test, at, places)?;
+        at = behind_tree(built, at, end);
+    }
+    Ok(())
+}
+
+// Appends the places of the children of the node at a place that pass. Of the rows below them none is read.
+fn push_children(
+    built: &Built,
+    test: &Test<'_>,
+    place: u32,
+    places: &mut Vec<u32>,
+) -> Result<(), AllocError>
+    requires built { IsBuilt built.now }
+    requires few { length built.now.rows.items < 2 ^ 32 }
+    requires within { place < length built.now.rows.items }
+    ensures { OnOk result (places.new.items ≡ places.old.items ++ child_places (built_forest built.now) (node_test test.now) place) }
+{
+    let row = built.rows[place as usize];
+    push_passing(built, test, place + row.asize, place + row.size, places)
+}
+
+// The places of the children of the nodes at these places that pass, in the order in which they are found.
+fn children(
+    alloc: Global,
+    built: &Built,
+    test: &Test<'_>,
+    places: &[u32],
+) -> Result<Vec<u32>, AllocError>
+    requires built { IsBuilt built.now }
+    requires few { length built.now.rows.items < 2 ^ 32 }
+    requires within { All (λ place. place < length built.now.rows.items) places.now }
+    ensures { IfOk result (λ found. found.items ≡ flat_map (child_places (built_forest built.now) (node_test test.now)) places.now) }
+{
+    let mut found = Vec::new(alloc);
+    for place in places {
+        push_children(built, test, *place, &mut found)?;
+    }
+    Ok(found)
+}
+
+// What a step gives from the nodes at these places.
+fn step(
+    alloc: Global,
+    built: &Built,
+    test: &Test<'_>,
+    places: &[u32],
+) -> Result<Vec<u32>, AllocError>
+    requires built { IsBuilt built.now }
+    requires few { length built.now.rows.items < 2 ^ 32 }
+    requires within { All (λ place. place < length built.now.rows.items) places.now }
+    ensures { IfOk result (λ found. found.items ≡ step_places (built_forest built.now) (node_test test.now) places.now) }
+{
+    let mut found = children(alloc, built, test, places)?;
+    in_document_order(&mut found, built.rows.len() as u32);
+    Ok(found)
+}
+
+/// The places of the nodes that a path leads to.
+pub fn path_places(alloc: Global, built: &Built, tests: &[Test<'_>]) -> Result<Vec<u32>, AllocError>
+    requires built { IsBuilt built.now }
+    requires few { length built.now.rows.items < 2 ^ 32 }
+    ensures { IfOk result (λ found. found.items ≡ places_of (paths.path_value (built_forest built.now) (map node_test tests.now))) }
+{
+    let mut places = Vec::new(alloc);
+    push_tops(built, 0, built.rows.len() as u32, &mut places)?;
+    for test in tests {
+        places = step(alloc, built, test, &places)?;
+    }
+    Ok(places)
+}
