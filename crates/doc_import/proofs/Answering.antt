@@ -31,7 +31,7 @@ pub too_many_answer : (strip : Bool) (bytes : List ℕ) (w : Work) (s : Shape) �
 too_many_answer strip bytes w s few led e many = read_too_many strip bytes w s few led e (omega (arith, many, sized_length (length w.lines) 0 w.lines))
 
 pub built_answer : (strip : Bool) (bytes : List ℕ) (w : Work) (s : Shape) (built : Built) → length bytes ≤ 2 ^ 26 → Leads strip start bytes (machine w s) → s ≡ end → built_lines built ≡ finished w → length w.lines ≤ 2 ^ 24
-    → ArePlaced built.names.items built.values.items built.rows.items → IsImport bytes strip (Ok built)
+    → ArePlaced built.names built.heap built.rows.items → IsImport bytes strip (Ok built)
 built_answer strip bytes w s built few led e is small placed = (
   record { flat = built_flat strip bytes w s (built_lines built) led e is; placed = placed },
   read_whole strip bytes w s (built_lines built) few led e is (omega (arith, small, sized_length (length w.lines) 0 w.lines, ap length is)),

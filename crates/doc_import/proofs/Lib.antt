@@ -7,7 +7,6 @@ pub mod Lexing
 pub mod Ordered
 pub mod Spelling
 pub mod Working
-pub mod Named
 pub mod Rowing
 pub mod Noting
 pub mod Steps

@@ -1,16 +1,20 @@
 -- Names that are noted, and rows that get their sizes, keep the rows tidy.
-use Rattle.std.proofs.Common.{◌≡◌, inl, inr, ℕ, zero, suc, ◌<◌, true, List, [], ◌∷◌, ◌++◌, length, set, get_or, sym, ap, ◌∙◌, subst, arith, append-nil, length-append}
+use Rattle.std.proofs.Common.{◌≡◌, ◌⊎◌, inl, inr, ℕ, zero, suc, ◌+◌, ◌<◌, true, List, [], ◌∷◌, ◌++◌, length, set, get_or, refl, sym, ap, ◌∙◌, subst, arith, length-append}
 use Rattle.std.specs.List.{list_all, slice_index}
 use Rattle.std.specs.Str.{IsUtf8}
 use Rattle.std.proofs.lemmas.Str.{IsUtf8-from_ascii}
 use Rattle.std.proofs.lemmas.Bool.Decides.{nat_tests}
 use Rattle.tree_model.specs.Chars.{is_name_char, is_ncname}
-use Rattle.tree_model.specs.Rows.{lines_of, ArePlaced}
+use Rattle.tree_model.specs.Labels.{local_name}
+use Rattle.tree_model.specs.Rows.{name_at, lines_of, ArePlaced}
 use Rattle.tree_model.specs.declared.row.Row.{Row}
-use Rattle.doc_import.specs.Building.{AreUtf8, IsTidy, Grows}
+use Rattle.tree_model.specs.declared.text.Name.{Name}
+use Rattle.tree_model.proofs.Tables.{placed_sized}
+use Rattle.name_pool.specs.Names.{with_name}
+use Rattle.name_pool.proofs.Growing.{with_name_cases, with_name_new, number_kept, lines_interned, placed_interned}
+use Rattle.doc_import.specs.Building.{IsTidy}
 use Rattle.doc_import.proofs.Spans.{both_true}
 use Rattle.doc_import.proofs.Lexing.{ncname_each}
-use Rattle.doc_import.proofs.Rowing.{lines_kept, placed_kept, placed_sized, name_kept}
 
 -- names are ASCII
 name_char_ascii : (c : ℕ) → is_name_char c ≡ true → c < 128
@@ -21,30 +25,37 @@ name_ascii [] all i = omega arith
 name_ascii (c ∷ v) all zero = name_char_ascii c (both_true (is_name_char c) (list_all is_name_char v) all).0
 name_ascii (c ∷ v) all (suc i) = name_ascii v (both_true (is_name_char c) (list_all is_name_char v) all).1 i
 
-text_more : (names : List (List ℕ)) (name : List ℕ) → AreUtf8 names → IsUtf8 name → AreUtf8 (names ++ name ∷ [])
-text_more [] name are is = (is, tt)
-text_more (n ∷ names) name are is = (are.0, text_more names name are.1 is)
+pub name_utf8 : (name : List ℕ) → is_ncname name ≡ true → IsUtf8 name
+name_utf8 name is = IsUtf8-from_ascii name (name_ascii name (ncname_each name is))
 
-noted_by : (names names' : List (List ℕ)) (name values : List ℕ) (rows : List Row) → IsTidy names values rows → is_ncname name ≡ true → Grows names name names' → IsTidy names' values rows × (lines_of names' values rows ≡ lines_of names values rows)
-noted_by names names' name values rows tidy named (inl e) = (subst (λ x. IsTidy x values rows) (sym e) tidy, ap (λ x. lines_of x values rows) e)
-noted_by names names' name values rows tidy named (inr e) =
-    let more : List (List ℕ) = name ∷ [] in
-    let placed : ArePlaced (names ++ more) values rows = subst (λ x. ArePlaced (names ++ more) x rows) (append-nil values) (placed_kept names more values [] rows tidy.placed) in
-    let grown : IsTidy (names ++ more) values rows = record {
-      placed = placed;
-      some = omega (arith, tidy.some, length-append names more);
-      unnamed = name_kept names more 0 tidy.some ∙ tidy.unnamed;
-      text = text_more names name tidy.text (IsUtf8-from_ascii name (name_ascii name (ncname_each name named)));
-    } in (
-      subst (λ x. IsTidy x values rows) (sym e) grown,
-      ap (λ x. lines_of x values rows) e ∙ ap (λ x. lines_of (names ++ more) x rows) (sym (append-nil values)) ∙ lines_kept names more values [] rows tidy.placed,
-    )
+more_names : (names : List Name) (name : Name) → 0 < length names → 0 < length (with_name names name)
+more_names names name some = by (with_name_cases names name)
+  where
+    by : (with_name names name ≡ names) ⊎ (with_name names name ≡ names ++ name ∷ []) → 0 < length (with_name names name)
+    by (inl e) = omega (arith, ap length e)
+    by (inr e) = omega (arith, ap length e, length-append names (name ∷ []))
 
-pub tidy_noted : (names names' : List (List ℕ)) (name values : List ℕ) (rows : List Row) → IsTidy names values rows → is_ncname name ≡ true → Grows names name names' → IsTidy names' values rows
-tidy_noted names names' name values rows tidy named grows = (noted_by names names' name values rows tidy named grows).0
+pub tidy_noted : (names names' : List Name) (name : Name) (values : List ℕ) (rows : List Row) → IsTidy names values rows → names' ≡ with_name names name → IsTidy names' values rows
+tidy_noted names names' name values rows tidy grown =
+    subst (λ l. IsTidy l values rows) (sym grown)
+    (record {
+      placed = placed_interned names name values rows tidy.placed;
+      some = more_names names name tidy.some;
+      unnamed = number_kept names name 0 tidy.some ∙ tidy.unnamed;
+    })
 
-pub lines_noted : (names names' : List (List ℕ)) (name values : List ℕ) (rows : List Row) → IsTidy names values rows → is_ncname name ≡ true → Grows names name names' → lines_of names' values rows ≡ lines_of names values rows
-lines_noted names names' name values rows tidy named grows = (noted_by names names' name values rows tidy named grows).1
+-- the row of a document alone, and the name without bytes
+pub tidy_first : (names first : List Name) (values : List ℕ) (rows : List Row) (row : Row) → first ≡ [] → names ≡ with_name first (local_name []) → rows ≡ row ∷ [] → row.name < length names → row.val.at + row.val.len ≡ 0 → IsTidy names values rows
+tidy_first names first values rows row none grown one named empty =
+    let is : names ≡ local_name [] ∷ [] = grown ∙ ap (λ l. with_name l (local_name [])) none ∙ with_name_new [] (local_name []) refl in
+    record {
+      placed = subst (ArePlaced names values) (sym one) (named, omega (arith, empty), tt);
+      some = omega (arith, ap length is);
+      unnamed = ap (λ l. name_at l 0) is;
+    }
 
-pub tidy_sized : (names : List (List ℕ)) (values : List ℕ) (rows : List Row) (place size : ℕ) (row : Row) → row ≡ get_or rows place row → place < length rows → IsTidy names values rows → IsTidy names values (set rows place (record row { size = size }))
-tidy_sized names values rows place size row is lt tidy = record { placed = placed_sized names values rows place size row is lt tidy.placed; some = tidy.some; unnamed = tidy.unnamed; text = tidy.text }
+pub lines_noted : (names names' : List Name) (name : Name) (values : List ℕ) (rows : List Row) → IsTidy names values rows → names' ≡ with_name names name → lines_of names' values rows ≡ lines_of names values rows
+lines_noted names names' name values rows tidy grown = ap (λ l. lines_of l values rows) grown ∙ lines_interned names name values rows tidy.placed
+
+pub tidy_sized : (names : List Name) (values : List ℕ) (rows : List Row) (place size : ℕ) (row : Row) → row ≡ get_or rows place row → place < length rows → IsTidy names values rows → IsTidy names values (set rows place (record row { size = size }))
+tidy_sized names values rows place size row is lt tidy = record { placed = placed_sized names values rows place size row is lt tidy.placed; some = tidy.some; unnamed = tidy.unnamed }

@@ -10,7 +10,7 @@ use Rattle.doc_import.specs.declared.reading.ImportFault.TheVariants.{TooLong, M
 
 -- what the rows say, with their names and values
 abbrev pub built_lines : Built → List (Line Label)
-built_lines built = lines_of built.names.items built.values.items built.rows.items
+built_lines built = lines_of built.names built.heap built.rows.items
 
 -- the one forest that they stand for
 abbrev pub built_forest : Built → Forest Label
@@ -19,7 +19,7 @@ built_forest built = grove_of (built_lines built)
 -- the rows are those of the forest, and each has a name and a value of its own
 pub record IsBuilt (built : Built) : Type 0 where
   pub flat : IsFlat (built_lines built)
-  pub placed : ArePlaced built.names.items built.values.items built.rows.items
+  pub placed : ArePlaced built.names built.heap built.rows.items
 
 -- the tree that is read, or the first fault; want of memory may be answered to any text
 abbrev pub IsImport : List ℕ → Bool → Result Built ImportFault → Type 0

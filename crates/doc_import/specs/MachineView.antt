@@ -2,6 +2,7 @@
 use Rattle.std.specs.Prelude.{ℕ, Bool, List, map, reverse}
 use Rattle.tree_model.specs.Rows.{lines_of}
 use Rattle.tree_model.specs.declared.row.Row.{Row}
+use Rattle.tree_model.specs.declared.text.Name.{Name}
 use Rattle.doc_import.specs.View.{Bytes}
 use Rattle.doc_import.specs.Shape.{Shape, shape, Mode, in_content, in_tag}
 use Rattle.doc_import.specs.Work.{Work, work}
@@ -23,5 +24,5 @@ abbrev pub control_shape : Control → Shape
 control_shape c = shape_of c.opened.items c.seen c.place c.name.now
 
 -- the rows with the names and the bytes of the values, and the places of the open elements
-abbrev pub work_of : List Bytes → List ℕ → List Row → List ℕ → Work
-work_of names values rows open_at = work (lines_of (names_of names) values rows) (reverse open_at)
+abbrev pub work_of : List Name → List ℕ → List Row → List ℕ → Work
+work_of names values rows open_at = work (lines_of names values rows) (reverse open_at)

@@ -9,7 +9,7 @@ use Rattle.doc_import.specs.declared.reading.ImportFault.{ImportFault}
 use Rattle.doc_import.specs.declared.reading.ImportFault.TheVariants.{TooLong, Malformed, TooManyRows, NoMemory}
 
 abbrev pub builder_work : Builder → Work
-builder_work b = work_of b.names.keys b.values.items b.rows.items b.opened.items
+builder_work b = work_of b.names b.heap b.rows.items b.opened.items
 
 abbrev pub machine_of : Control → Builder → Machine
 machine_of c b = machine (builder_work b) (control_shape c)

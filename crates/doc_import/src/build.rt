@@ -1,26 +1,30 @@
 // Rows from pieces, one after the other.
 ghost use Rattle.std.specs.Prelude.{◌≡◌, ◌+◌, ◌-◌, ◌<◌, ◌≤◌, ◌^◌, ℕ, [], true, false, length, reverse, slice_index, IfOk, OnOk, vec_len};
+ghost use Rattle.std.specs.Str.{IsUtf8};
 ghost use Rattle.tree_model.specs.Chars.{is_ncname};
 ghost use Rattle.tree_model.specs.Labels.{Label, elem_label, local_name};
 ghost use Rattle.tree_model.specs.Rows.{name_at, lines_of};
-ghost use Rattle.doc_import.specs.Building.{IsTidy, IsNamed, Grows};
+ghost use Rattle.name_pool.specs.Names.{with_name, HasNumber};
+ghost use Rattle.doc_import.specs.Building.{IsTidy, IsNamed};
 ghost use Rattle.doc_import.specs.Work.{work, top, with_leaf, with_text, begun, ended, works, begin_work};
 ghost use Rattle.doc_import.specs.View.{token_of};
-ghost use Rattle.doc_import.specs.MachineView.{names_of, work_of};
+ghost use Rattle.doc_import.specs.MachineView.{work_of};
 
 use crate::control::all_blank;
 use crate::item::Piece;
-use indexmap::IndexSet;
+use name_pool::NamePool;
 use std::alloc::{AllocError, Global};
+use std::str;
 use tree_model::{Kind, Row, ValueRef};
+use value_heap::ValueHeap;
 
-/// The rows so far, the places of the open elements, the names by number and the bytes of the values.
+/// The rows so far, the places of the open elements, the names by number and the values by place.
 #[derive(Drop)]
-pub struct Builder<'a> {
+pub struct Builder {
     pub rows: Vec<Row>,
     pub opened: Vec<usize>,
-    pub names: IndexSet<&'a [u8]>,
-    pub values: Vec<u8>,
+    pub names: NamePool,
+    pub heap: ValueHeap,
     ghost in_range: { (k : ℕ) → k < vec_len opened → slice_index opened.items k < vec_len rows },
 }
 
@@ -35,42 +39,34 @@ fn top_of(opened: &Vec<usize>) -> usize
     }
 }
 
-// The number of a name: a new one where it wasn't met before.
-#[tactic(auto, using(crate::proofs::Named::index_named))]
-fn number_of<'a>(names: &mut IndexSet<&'a [u8]>, name: &'a [u8]) -> Result<u64, AllocError>
-    ensures grown { OnOk result (Grows (names_of names.old.keys) name.now (names_of names.new.keys)) }
-    ensures name { IfOk result (λ n. name_at (names_of names.new.keys) n ≡ name.now) }
-    ensures within { IfOk result (λ n. n < length (names_of names.new.keys)) }
+// The number of a name in no namespace: a new one where it wasn't met before.
+fn number_of(names: &mut NamePool, local: &[u8]) -> Result<u64, AllocError>
+    requires { IsUtf8 local.now }
+    ensures number { IfOk result (HasNumber names.new (local_name local.now)) }
+    ensures grown { OnOk result (names.new ≡ with_name names.old (local_name local.now)) }
 {
-    match names.insert_full(name) {
-        Ok(found) => Ok(found.0 as u64),
-        Err(_) => Err(AllocError),
-    }
+    let local = str::from_utf8(local).unwrap();
+    names.intern_parts("", "", local)
 }
 
-impl<'a> Builder<'a> {
+impl Builder {
     // A row at the end, below the innermost open element.
     fn add(&mut self, kind: Kind, name: u64, value: &[u8]) -> Result<(), AllocError>
         requires some { 0 < vec_len self.old.rows }
         requires few { vec_len self.old.rows < 2 ^ 32 }
-        requires tidy { IsTidy (names_of self.old.names.keys) self.old.values.items self.old.rows.items }
-        requires named { name < length (names_of self.old.names.keys) }
-        ensures lines { OnOk result (lines_of (names_of self.new.names.keys) self.new.values.items self.new.rows.items
-            ≡ with_leaf (record { kind = kind; id = 0; name = local_name (name_at (names_of self.old.names.keys) name); value = value.now })
-            (lines_of (names_of self.old.names.keys) self.old.values.items self.old.rows.items) (reverse self.old.opened.items)) }
-        ensures tidy { OnOk result (IsTidy (names_of self.new.names.keys) self.new.values.items self.new.rows.items) }
+        requires tidy { IsTidy self.old.names self.old.heap self.old.rows.items }
+        requires named { name < length self.old.names }
+        ensures lines { OnOk result (lines_of self.new.names self.new.heap self.new.rows.items
+            ≡ with_leaf (record { kind = kind; id = 0; name = name_at self.old.names name; value = value.now })
+            (lines_of self.old.names self.old.heap self.old.rows.items) (reverse self.old.opened.items)) }
+        ensures tidy { OnOk result (IsTidy self.new.names self.new.heap self.new.rows.items) }
         ensures opened { self.new.opened.items ≡ self.old.opened.items }
         ensures names { self.new.names ≡ self.old.names }
         ensures len { OnOk result (vec_len self.new.rows ≡ vec_len self.old.rows + 1) }
     {
         let place = self.rows.len();
         let dist = (place - top_of(&self.opened)) as u32;
-        let at = self.values.len() as u64;
-        self.values.extend_from_slice(value)?;
-        let val = ValueRef {
-            at,
-            len: value.len() as u64,
-        };
+        let val = self.heap.append(value)?;
         self.rows.push(Row {
             kind,
             name,
@@ -84,15 +80,14 @@ impl<'a> Builder<'a> {
     }
 
     // The number of a name, which is noted where it is new.
-    #[tactic(auto, using(crate::proofs::Noting::tidy_noted, crate::proofs::Noting::lines_noted))]
-    fn note(&mut self, name: &'a [u8]) -> Result<u64, AllocError>
+    #[tactic(auto, using(crate::proofs::Noting::name_utf8, crate::proofs::Noting::tidy_noted, crate::proofs::Noting::lines_noted))]
+    fn note(&mut self, name: &[u8]) -> Result<u64, AllocError>
         requires named { is_ncname name.now ≡ true }
-        requires tidy { IsTidy (names_of self.old.names.keys) self.old.values.items self.old.rows.items }
-        ensures name { IfOk result (λ n. name_at (names_of self.new.names.keys) n ≡ name.now) }
-        ensures within { IfOk result (λ n. n < length (names_of self.new.names.keys)) }
-        ensures tidy { OnOk result (IsTidy (names_of self.new.names.keys) self.new.values.items self.new.rows.items) }
-        ensures lines { OnOk result (lines_of (names_of self.new.names.keys) self.new.values.items self.new.rows.items
-            ≡ lines_of (names_of self.old.names.keys) self.old.values.items self.old.rows.items) }
+        requires tidy { IsTidy self.old.names self.old.heap self.old.rows.items }
+        ensures number { IfOk result (HasNumber self.new.names (local_name name.now)) }
+        ensures tidy { OnOk result (IsTidy self.new.names self.new.heap self.new.rows.items) }
+        ensures lines { OnOk result (lines_of self.new.names self.new.heap self.new.rows.items
+            ≡ lines_of self.old.names self.old.heap self.old.rows.items) }
         ensures rows { self.new.rows ≡ self.old.rows }
         ensures opened { self.new.opened.items ≡ self.old.opened.items }
     {
@@ -100,14 +95,14 @@ impl<'a> Builder<'a> {
         Ok(number)
     }
 
-    fn begin(&mut self, name: &'a [u8]) -> Result<(), AllocError>
+    fn begin(&mut self, name: &[u8]) -> Result<(), AllocError>
         requires some { 0 < vec_len self.old.rows }
         requires few { vec_len self.old.rows < 2 ^ 32 }
         requires named { is_ncname name.now ≡ true }
-        requires tidy { IsTidy (names_of self.old.names.keys) self.old.values.items self.old.rows.items }
-        ensures work { OnOk result (work_of self.new.names.keys self.new.values.items self.new.rows.items self.new.opened.items
-            ≡ begun name.now (work_of self.old.names.keys self.old.values.items self.old.rows.items self.old.opened.items)) }
-        ensures tidy { OnOk result (IsTidy (names_of self.new.names.keys) self.new.values.items self.new.rows.items) }
+        requires tidy { IsTidy self.old.names self.old.heap self.old.rows.items }
+        ensures work { OnOk result (work_of self.new.names self.new.heap self.new.rows.items self.new.opened.items
+            ≡ begun name.now (work_of self.old.names self.old.heap self.old.rows.items self.old.opened.items)) }
+        ensures tidy { OnOk result (IsTidy self.new.names self.new.heap self.new.rows.items) }
         ensures len { OnOk result (vec_len self.new.rows ≡ vec_len self.old.rows + 1) }
     {
         let place = self.rows.len();
@@ -120,10 +115,10 @@ impl<'a> Builder<'a> {
     #[tactic(auto, using(crate::proofs::Rowing::ended_none, crate::proofs::Rowing::ended_one, crate::proofs::Noting::tidy_sized))]
     fn end(&mut self)
         requires few { vec_len self.old.rows < 2 ^ 32 }
-        requires tidy { IsTidy (names_of self.old.names.keys) self.old.values.items self.old.rows.items }
-        ensures work { work_of self.new.names.keys self.new.values.items self.new.rows.items self.new.opened.items
-            ≡ ended (lines_of (names_of self.old.names.keys) self.old.values.items self.old.rows.items) (reverse self.old.opened.items) }
-        ensures tidy { IsTidy (names_of self.new.names.keys) self.new.values.items self.new.rows.items }
+        requires tidy { IsTidy self.old.names self.old.heap self.old.rows.items }
+        ensures work { work_of self.new.names self.new.heap self.new.rows.items self.new.opened.items
+            ≡ ended (lines_of self.old.names self.old.heap self.old.rows.items) (reverse self.old.opened.items) }
+        ensures tidy { IsTidy self.new.names self.new.heap self.new.rows.items }
         ensures len { vec_len self.new.rows ≡ vec_len self.old.rows }
     {
         let Some(place) = self.opened.pop() else {
@@ -137,10 +132,10 @@ impl<'a> Builder<'a> {
     fn text(&mut self, bytes: &[u8], strip: bool) -> Result<(), AllocError>
         requires some { 0 < vec_len self.old.rows }
         requires few { vec_len self.old.rows < 2 ^ 32 }
-        requires tidy { IsTidy (names_of self.old.names.keys) self.old.values.items self.old.rows.items }
-        ensures work { OnOk result (work_of self.new.names.keys self.new.values.items self.new.rows.items self.new.opened.items
-            ≡ with_text strip bytes.now (lines_of (names_of self.old.names.keys) self.old.values.items self.old.rows.items) (reverse self.old.opened.items)) }
-        ensures tidy { OnOk result (IsTidy (names_of self.new.names.keys) self.new.values.items self.new.rows.items) }
+        requires tidy { IsTidy self.old.names self.old.heap self.old.rows.items }
+        ensures work { OnOk result (work_of self.new.names self.new.heap self.new.rows.items self.new.opened.items
+            ≡ with_text strip bytes.now (lines_of self.old.names self.old.heap self.old.rows.items) (reverse self.old.opened.items)) }
+        ensures tidy { OnOk result (IsTidy self.new.names self.new.heap self.new.rows.items) }
         ensures len { OnOk result (vec_len self.new.rows ≤ vec_len self.old.rows + 1) }
         ensures grows { OnOk result (vec_len self.old.rows ≤ vec_len self.new.rows) }
     {
@@ -156,14 +151,14 @@ impl<'a> Builder<'a> {
 
     /// Makes the rows of the next piece, of pieces that stand in order.
     #[tactic(auto, unfolding(crate::specs::Work::works))]
-    pub fn take(&mut self, piece: Piece<'a>, strip: bool) -> Result<(), AllocError>
+    pub fn take(&mut self, piece: Piece<'_>, strip: bool) -> Result<(), AllocError>
         requires some { 0 < vec_len self.old.rows }
         requires few { vec_len self.old.rows < 2 ^ 32 }
         requires named { IsNamed (token_of piece) }
-        requires tidy { IsTidy (names_of self.old.names.keys) self.old.values.items self.old.rows.items }
-        ensures work { OnOk result (work_of self.new.names.keys self.new.values.items self.new.rows.items self.new.opened.items
-            ≡ works strip (work_of self.old.names.keys self.old.values.items self.old.rows.items self.old.opened.items) (token_of piece.entry)) }
-        ensures tidy { OnOk result (IsTidy (names_of self.new.names.keys) self.new.values.items self.new.rows.items) }
+        requires tidy { IsTidy self.old.names self.old.heap self.old.rows.items }
+        ensures work { OnOk result (work_of self.new.names self.new.heap self.new.rows.items self.new.opened.items
+            ≡ works strip (work_of self.old.names self.old.heap self.old.rows.items self.old.opened.items) (token_of piece.entry)) }
+        ensures tidy { OnOk result (IsTidy self.new.names self.new.heap self.new.rows.items) }
         ensures len { OnOk result (vec_len self.new.rows ≤ vec_len self.old.rows + 1) }
         ensures grows { OnOk result (vec_len self.old.rows ≤ vec_len self.new.rows) }
     {
@@ -187,14 +182,13 @@ impl<'a> Builder<'a> {
 }
 
 /// The row of a document alone; the name without bytes is the first of the names.
-pub fn begin_rows<'a>(alloc: Global, empty: &'a [u8]) -> Result<Builder<'a>, AllocError>
-    requires { empty.now ≡ [] }
-    ensures work { IfOk result (λ b. work_of b.names.keys b.values.items b.rows.items b.opened.items ≡ begin_work) }
-    ensures tidy { IfOk result (λ b. IsTidy (names_of b.names.keys) b.values.items b.rows.items) }
+pub fn begin_rows(alloc: Global) -> Result<Builder, AllocError>
+    ensures work { IfOk result (λ b. work_of b.names b.heap b.rows.items b.opened.items ≡ begin_work) }
+    ensures tidy { IfOk result (λ b. IsTidy b.names b.heap b.rows.items) }
     ensures len { IfOk result (λ b. vec_len b.rows ≡ 1) }
 {
-    let mut names = IndexSet::new(alloc);
-    let name = number_of(&mut names, empty)?;
+    let mut names = NamePool::new(alloc);
+    let name = number_of(&mut names, &[])?;
     let mut rows = Vec::new(alloc);
     rows.push(Row {
         kind: Kind::Doc,
@@ -209,6 +203,6 @@ pub fn begin_rows<'a>(alloc: Global, empty: &'a [u8]) -> Result<Builder<'a>, All
         rows,
         opened: Vec::new(alloc),
         names,
-        values: Vec::new(alloc),
+        heap: ValueHeap::new(alloc),
     })
 }

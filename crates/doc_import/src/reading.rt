@@ -3,7 +3,7 @@ ghost use Rattle.std.specs.Prelude.{◌≡◌, ◌+◌, ◌<◌, ◌≤◌, ◌^
 ghost use Rattle.doc_import.specs.Building.{IsTidy};
 ghost use Rattle.doc_import.specs.Imported.{IsImport};
 ghost use Rattle.doc_import.specs.Machine.{start, Leads};
-ghost use Rattle.doc_import.specs.MachineView.{control_shape, names_of};
+ghost use Rattle.doc_import.specs.MachineView.{control_shape};
 ghost use Rattle.doc_import.specs.ReaderView.{machine_of, IsReadFault};
 ghost use Rattle.doc_import.specs.OneTree.{SpellsOne};
 ghost use Rattle.doc_import.specs.Shape.{end};
@@ -13,9 +13,11 @@ use crate::build::{Builder, begin_rows};
 use crate::control::Control;
 use crate::finish::built;
 use crate::item::{Place, item_at};
+use name_pool::NamePool;
 use std::alloc::{AllocError, Global};
 use thiserror::Error;
-use tree_model::{Row, Text};
+use tree_model::Row;
+use value_heap::ValueHeap;
 
 /// The most bytes of one text.
 const MAX_BYTES: usize = 1 << 26;
@@ -23,12 +25,12 @@ const MAX_BYTES: usize = 1 << 26;
 /// The most rows of one table.
 const MAX_ROWS: usize = 1 << 24;
 
-/// A document as rows. A row's name is a place in `names`, and its value lies in `values`. Row 0 is the document, with an
+/// A document as rows. A row's name has its number in `names`, and its value lies in `heap`. Row 0 is the document, with an
 /// empty path, and ids equal places.
 #[derive(Debug, Drop)]
 pub struct Built {
-    pub names: Vec<Text>,
-    pub values: Vec<u8>,
+    pub names: NamePool,
+    pub heap: ValueHeap,
     pub rows: Vec<Row>,
 }
 
@@ -58,10 +60,10 @@ fn read<'a>(
     alloc: Global,
     bytes: &'a [u8],
     strip: bool,
-) -> Result<(Control<'a>, Builder<'a>), ImportFault>
+) -> Result<(Control<'a>, Builder), ImportFault>
     requires { length bytes.now ≤ 2 ^ 26 }
     ensures led { IfOk result (λ r. Leads strip start bytes.now (machine_of r.0 r.1)) }
-    ensures tidy { IfOk result (λ r. IsTidy (names_of r.1.names.keys) r.1.values.items r.1.rows.items) }
+    ensures tidy { IfOk result (λ r. IsTidy r.1.names r.1.heap r.1.rows.items) }
     ensures some { IfOk result (λ r. 0 < vec_len r.1.rows) }
     ensures few { IfOk result (λ r. vec_len r.1.rows ≤ length bytes.now + 1) }
     ensures fault { IfErr result (IsReadFault strip bytes.now) }
@@ -72,7 +74,7 @@ fn read<'a>(
         seen: false,
         place: Place::Content,
     };
-    let mut builder = begin_rows(alloc, bytes.split_at(0).0)?;
+    let mut builder = begin_rows(alloc)?;
     let mut rest = bytes;
     while !rest.is_empty() {
         let Some((piece, after)) = item_at(control.place, rest) else {
@@ -116,10 +118,7 @@ pub fn import(alloc: Global, bytes: &[u8], strip: bool) -> Result<Built, ImportF
     if builder.rows.len() > MAX_ROWS {
         return Err(ImportFault::TooManyRows);
     }
-    match built(alloc, builder) {
-        Ok(built) => Ok(built),
-        Err(_) => Err(ImportFault::NoMemory),
-    }
+    Ok(built(builder))
 }
 
 /// A text spells at most one tree.

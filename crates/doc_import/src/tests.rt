@@ -5,16 +5,20 @@ use std::test::Fail;
 use tree_model::{Row, ValueRef};
 
 fn name_of<'a>(built: &'a Built, row: &Row) -> &'a str {
-    match built.names.get(row.name as usize) {
-        Some(name) => name.as_str(),
-        None => "?",
+    if row.name < built.names.len() {
+        built.names.name(row.name).local.as_str()
+    } else {
+        "?"
     }
 }
 
 fn value_of<'a>(built: &'a Built, val: ValueRef) -> &'a str {
-    let bytes = built.values.get(val.at as usize..).unwrap_or(b"?");
-    let bytes = bytes.get(..val.len as usize).unwrap_or(b"?");
-    str::from_utf8(bytes).unwrap_or("?")
+    match val.at.checked_add(val.len) {
+        Some(end) if end <= built.heap.mark() => {
+            str::from_utf8(built.heap.get(val)).unwrap_or("?")
+        }
+        _ => "?",
+    }
 }
 
 // A line for each row: its kind, dist, size, asize, id, name and value.

@@ -50,7 +50,7 @@ children_of built h node in_f row lt is = record {
 }
   where
     line : Row → Line Label
-    line = line_of built.names.items built.values.items
+    line = line_of built.names built.heap
 
     s : Stands Label 0 (flatten (built_forest built)) node
     s = stands 0 0 (built_forest built) node in_f

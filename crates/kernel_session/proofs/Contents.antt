@@ -1,6 +1,6 @@
 -- Rows under a path.
-use Rattle.std.proofs.Common.{◌≡◌, ℕ, ◌+◌, ◌<◌, ◌≤◌, ◌^◌, Bool, true, false, List, [], ◌∷◌, ◌++◌, length, take, refl, sym, ap, ◌∙◌, subst, arith, append-nil, length-append}
-use Rattle.std.specs.Prelude.{set, slice_range}
+use Rattle.std.proofs.Common.{◌≡◌, ℕ, ◌<◌, ◌≤◌, ◌^◌, Bool, true, false, List, [], ◌∷◌, ◌++◌, length, take, refl, sym, ap, ◌∙◌, subst, arith, length-append}
+use Rattle.std.specs.Prelude.{set}
 use Rattle.tree_model.specs.Forest.{Forest, none, tree, Line, flatten, grove_of, IsFlat, count, top_count}
 use Rattle.tree_model.specs.Trees.{grove_is, is_flat, flat-length, length-lines}
 use Rattle.tree_model.specs.Labels.{Label, with_path}
@@ -13,10 +13,11 @@ use Rattle.std.proofs.Common.{inl, inr}
 use Rattle.std.specs.Prelude.{IfErr, Result, Ok, Err, Option, Some, None}
 use Rattle.kernel_session.specs.Replies.{refusal_text}
 use Rattle.kernel_session.specs.Steps.{IsFault, has_later_input}
-use Rattle.tree_model.specs.Rows.{value_at, label_of, line_of, lines_of, ArePlaced}
+use Rattle.tree_model.specs.Rows.{label_of, line_of, lines_of, ArePlaced}
 use Rattle.tree_model.specs.Printed.{row_texts, rows_text, range_text, base_text}
 use Rattle.tree_model.specs.States.{is_base_name}
 use Rattle.tree_model.specs.declared.row.Row.{Row}
+use Rattle.tree_model.specs.declared.text.Name.{Name}
 use Rattle.doc_import.specs.Imported.{IsBuilt, built_lines, built_forest}
 use Rattle.doc_import.specs.declared.reading.Built.{Built}
 use Rattle.kernel_session.specs.Databases.{IsKeptBuilt, IsRead, IsReadFault, IsNoBase}
@@ -25,18 +26,7 @@ use Rattle.std.specs.List.{join_with_byte, slice_index_or}
 use Rattle.tree_model.specs.declared.row.ValueRef.{ValueRef}
 use Rattle.std.proofs.lemmas.List.{length-map}
 use Rattle.std.proofs.Math.Seq.{take-length}
-use Rattle.doc_import.proofs.Rowing.{lines_kept, placed_kept, value_new}
-
--- ---- values with more bytes behind them
-
-value_last : (values more : List ℕ) (val : ValueRef) → val.at ≡ length values → val.len ≡ length more → value_at (values ++ more) val ≡ more
-value_last values more val at len = ap (λ n. slice_range (values ++ more) n (n + val.len)) at ∙ ap (λ n. slice_range (values ++ more) (length values) (length values + n)) len ∙ value_new values more
-
-same_lines : (names : List (List ℕ)) (values more : List ℕ) (rows : List Row) → ArePlaced names values rows → lines_of names (values ++ more) rows ≡ lines_of names values rows
-same_lines names values more rows placed = ap (λ x. lines_of x (values ++ more) rows) (sym (append-nil names)) ∙ lines_kept names [] values more rows placed
-
-still_placed : (names : List (List ℕ)) (values more : List ℕ) (rows : List Row) → ArePlaced names values rows → ArePlaced names (values ++ more) rows
-still_placed names values more rows placed = subst (λ x. ArePlaced x (values ++ more) rows) (append-nil names) (placed_kept names [] values more rows placed)
+use Rattle.tree_model.proofs.Tables.{value_new, lines_valued, placed_valued}
 
 -- ---- the first line under a path
 
@@ -53,32 +43,32 @@ flat_under : (path : List ℕ) (ls ls' : List (Line Label)) → IsFlat ls → ls
 flat_under path ls ls' flat e = e ∙ ap (lines_under path) (sym flat) ∙ sym (flatten-with_path path (grove_of ls))
 
 -- rows, and those whose first one has its value behind all others
-pub record Under (names : List (List ℕ)) (values values' path : List ℕ) (rows rows' : List Row) : Type 0 where
+pub record Under (names : List Name) (values values' path : List ℕ) (rows rows' : List Row) : Type 0 where
   pub flat : IsFlat (lines_of names values' rows')
   pub placed : ArePlaced names values' rows'
   pub forest : grove_of (lines_of names values' rows') ≡ with_path path (grove_of (lines_of names values rows))
 
-under : (names : List (List ℕ)) (values values' path : List ℕ) (rows rows' : List Row) → IsFlat (lines_of names values rows) → ArePlaced names values' rows'
+under : (names : List Name) (values values' path : List ℕ) (rows rows' : List Row) → IsFlat (lines_of names values rows) → ArePlaced names values' rows'
     → lines_of names values' rows' ≡ lines_under path (lines_of names values rows) → Under names values values' path rows rows'
 under names values values' path rows rows' flat placed e =
     let whole = flat_under path (lines_of names values rows) (lines_of names values' rows') flat e in
     record { flat = is_flat _ _ whole; placed = placed; forest = grove_is _ _ whole }
 
-pub none_under : (names : List (List ℕ)) (values path : List ℕ) (rows : List Row) → length rows ≡ 0 → grove_of (lines_of names values rows) ≡ with_path path (grove_of (lines_of names values rows))
+pub none_under : (names : List Name) (values path : List ℕ) (rows : List Row) → length rows ≡ 0 → grove_of (lines_of names values rows) ≡ with_path path (grove_of (lines_of names values rows))
 none_under names values path [] e = refl
 none_under names values path (row ∷ rows) e = cc
 
-first_under : (names : List (List ℕ)) (values path : List ℕ) (first : Row) (rest : List Row) (val : ValueRef) → IsFlat (lines_of names values (first ∷ rest)) → ArePlaced names values (first ∷ rest)
+first_under : (names : List Name) (values path : List ℕ) (first : Row) (rest : List Row) (val : ValueRef) → IsFlat (lines_of names values (first ∷ rest)) → ArePlaced names values (first ∷ rest)
     → val.at ≡ length values → val.len ≡ length path → Under names values (values ++ path) path (first ∷ rest) (record first { val = val } ∷ rest)
 first_under names values path first rest val flat placed at len =
     under names values (values ++ path) path (first ∷ rest) (record first { val = val } ∷ rest) flat
-    (placed.0, omega (arith, at, len, length-append values path), still_placed names values path rest placed.2)
+    (placed.0, omega (arith, at, len, length-append values path), placed_valued names values path rest placed.2)
     (
-    ap (λ v. record { label = record (label_of names values first) { value = v }; dist = first.dist; size = first.size; asize = first.asize } ∷ lines_of names (values ++ path) rest) (value_last values path val at len)
-    ∙ ap (λ ls. record (line_of names values first) { label = record (label_of names values first) { value = path } } ∷ ls) (same_lines names values path rest placed.2)
+    ap (λ v. record { label = record (label_of names values first) { value = v }; dist = first.dist; size = first.size; asize = first.asize } ∷ lines_of names (values ++ path) rest) (value_new values path val at len)
+    ∙ ap (λ ls. record (line_of names values first) { label = record (label_of names values first) { value = path } } ∷ ls) (lines_valued names values path rest placed.2)
     )
 
-pub rows_under : (names : List (List ℕ)) (values values' path : List ℕ) (rows : List Row) (first : Row) (val : ValueRef) → IsFlat (lines_of names values rows) → ArePlaced names values rows
+pub rows_under : (names : List Name) (values values' path : List ℕ) (rows : List Row) (first : Row) (val : ValueRef) → IsFlat (lines_of names values rows) → ArePlaced names values rows
     → 0 < length rows → first ≡ slice_index_or rows 0 first → values' ≡ values ++ path → val.at ≡ length values → val.len ≡ length path
     → Under names values values' path rows (set rows 0 (record first { val = val }))
 rows_under names values values' path [] first val flat placed some same e at len = absurd (omega arith)
@@ -90,7 +80,7 @@ rows_under names values values' path (row ∷ rest) first val flat placed some s
 -- ---- as many rows as nodes
 
 pub rows_counted : (built : Built) → IsBuilt built → length built.rows.items ≡ count (built_forest built)
-rows_counted built h = sym (length-map built.rows.items (line_of built.names.items built.values.items)) ∙ flat-length (built_lines built) h.flat
+rows_counted built h = sym (length-map built.rows.items (line_of built.names built.heap)) ∙ flat-length (built_lines built) h.flat
 
 pub rows_few : (built : Built) (next documents : ℕ) → IsKeptBuilt built next documents → length built.rows.items ≤ 2 ^ 24
 rows_few built next documents h = omega (arith, rows_counted built h.rows, h.sound.few)
@@ -146,20 +136,20 @@ none_sound = record {
   few = omega arith;
 }
 
-lines_none : (names : List (List ℕ)) (values : List ℕ) (rows : List Row) → rows ≡ [] → lines_of names values rows ≡ []
+lines_none : (names : List Name) (values : List ℕ) (rows : List Row) → rows ≡ [] → lines_of names values rows ≡ []
 lines_none names values [] e = refl
 lines_none names values (row ∷ rows) e = cc
 
-placed_none : (names : List (List ℕ)) (values : List ℕ) (rows : List Row) → rows ≡ [] → ArePlaced names values rows
+placed_none : (names : List Name) (values : List ℕ) (rows : List Row) → rows ≡ [] → ArePlaced names values rows
 placed_none names values [] e = tt
 placed_none names values (row ∷ rows) e = cc
 
 pub forest_none : (built : Built) → built.rows.items ≡ [] → built_forest built ≡ none
-forest_none built e = grove_is (built_lines built) none (lines_none built.names.items built.values.items built.rows.items e)
+forest_none built e = grove_is (built_lines built) none (lines_none built.names built.heap built.rows.items e)
 
 pub none_kept : (built : Built) → built.rows.items ≡ [] → IsKeptBuilt built (count (built_forest built)) 0
 none_kept built e = record {
-  rows = record { flat = is_flat (built_lines built) none (lines_none built.names.items built.values.items built.rows.items e); placed = placed_none built.names.items built.values.items built.rows.items e };
+  rows = record { flat = is_flat (built_lines built) none (lines_none built.names built.heap built.rows.items e); placed = placed_none built.names built.heap built.rows.items e };
   sound = subst (λ f. IsSound f (count f)) (sym (forest_none built e)) none_sound;
   counted = sym (ap top_count (forest_none built e));
 }

@@ -8,7 +8,7 @@ use Rattle.std.proofs.lemmas.Bool.{leb-true, le-leb}
 use Rattle.std.proofs.Math.Bool.{and-true}
 use Rattle.std.proofs.lemmas.Bool.Decides.{nat_tests}
 use Rattle.std.proofs.lemmas.Bool.{and_parts}
-use Rattle.tree_model.specs.Chars.{starts, has}
+use Rattle.tree_model.specs.XmlChars.{first_is, has_word}
 use Rattle.tree_model.specs.Sound.{is_empty, is_path_char, is_path}
 use Rattle.tree_model.specs.States.{is_base_name_char, is_base_name, default_path}
 
@@ -24,13 +24,13 @@ no_from_not true h = cc
 no_from_not false h = refl
 
 -- without / there are no two in a row, also not with one that follows
-no_slash_pair : (part : List ℕ) → list_all is_no_slash part ≡ true → has (codes "//") (part ++ codes "/") ≡ false
+no_slash_pair : (part : List ℕ) → list_all is_no_slash part ≡ true → has_word (codes "//") (part ++ codes "/") ≡ false
 no_slash_pair [] h = refl
 no_slash_pair (c ∷ part) h =
     let both = and_parts (is_no_slash c) (list_all is_no_slash part) h in
     rw (no_from_not (c == 47) both.0, no_slash_pair part both.1)
 
-no_slash_start : (part : List ℕ) → list_all is_no_slash part ≡ true → starts (λ c. c == 47) part ≡ false
+no_slash_start : (part : List ℕ) → list_all is_no_slash part ≡ true → first_is (λ c. c == 47) part ≡ false
 no_slash_start [] h = refl
 no_slash_start (c ∷ part) h = no_from_not (c == 47) (and_parts (is_no_slash c) (list_all is_no_slash part) h).0
 

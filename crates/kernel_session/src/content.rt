@@ -8,7 +8,7 @@ ghost use Rattle.kernel_session.specs.Steps as step;
 
 use doc_import::{Built, ImportFault, import};
 use std::alloc::{AllocError, Global};
-use tree_model::{Code, Refusal, ValueRef};
+use tree_model::{Code, Refusal};
 
 fn is_later_byte(byte: u8) -> bool
     ensures { result ≡ step.is_later_byte byte }
@@ -33,7 +33,7 @@ pub fn has_later_byte(bytes: &[u8]) -> bool
     found
 }
 
-// The same document under a path, whose bytes lie behind the values.
+// The same document under a path, which is put behind the other values.
 fn under_path(mut built: Built, path: &[u8]) -> Result<Built, AllocError>
     requires { IsBuilt built }
     ensures rows { IfOk result IsBuilt }
@@ -43,11 +43,7 @@ fn under_path(mut built: Built, path: &[u8]) -> Result<Built, AllocError>
     if built.rows.is_empty() {
         return Ok(built);
     }
-    let val = ValueRef {
-        at: built.values.len() as u64,
-        len: path.len() as u64,
-    };
-    built.values.extend_from_slice(path)?;
+    let val = built.heap.append(path)?;
     built.rows[0].val = val;
     Ok(built)
 }

@@ -10,8 +10,10 @@ use crate::command::XmlText;
 use crate::content::{has_later_byte, read_content};
 use crate::database::Database;
 use doc_import::Built;
+use name_pool::NamePool;
 use std::alloc::{AllocError, Global};
 use tree_model::{Code, Refusal};
+use value_heap::ValueHeap;
 
 // The most bytes of a database's name.
 const MAX_NAME: usize = 64;
@@ -54,13 +56,13 @@ fn default_path(alloc: Global, name: &[u8]) -> Result<Vec<u8>, AllocError>
 
 // A table without rows.
 fn no_rows(alloc: Global) -> Built
-    ensures names { result.names.items ≡ [] }
-    ensures values { result.values.items ≡ [] }
+    ensures names { result.names ≡ [] }
+    ensures heap { result.heap ≡ [] }
     ensures rows { result.rows.items ≡ [] }
 {
     Built {
-        names: Vec::new(alloc),
-        values: Vec::new(alloc),
+        names: NamePool::new(alloc),
+        heap: ValueHeap::new(alloc),
         rows: Vec::new(alloc),
     }
 }

@@ -88,7 +88,7 @@ impl Database {
         print_storage(
             &self.built.rows,
             &self.built.names,
-            &self.built.values,
+            &self.built.heap,
             from,
             to,
             out,
@@ -129,7 +129,7 @@ pub fn push_all_rows(built: &Built, out: &mut Vec<u8>) -> Result<(), AllocError>
     print_storage(
         &built.rows,
         &built.names,
-        &built.values,
+        &built.heap,
         0,
         built.rows.len() as u32,
         out,
@@ -142,7 +142,7 @@ fn push_node(built: &Built, place: u32, out: &mut Vec<u8>) -> Result<(), AllocEr
     requires within { place < length built.now.rows.items }
     ensures { OnOk result (out.new.items ≡ out.old.items ++ text_at (built_forest built.now) place) }
 {
-    print_node(&built.rows, &built.names, &built.values, place, out)
+    print_node(&built.rows, &built.names, &built.heap, place, out)
 }
 
 // Appends the XML text of the nodes at these places, joined by LF.

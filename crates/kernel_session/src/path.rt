@@ -1,8 +1,10 @@
 // The nodes that a path leads to, by their places among the rows.
-ghost use Rattle.std.specs.Prelude.{◌≡◌, ◌<◌, ◌≤◌, ◌^◌, ◌++◌, [], length, map, OnOk, IfOk};
+ghost use Rattle.std.specs.Prelude.{◌≡◌, ◌<◌, ◌≤◌, ◌^◌, ◌&&◌, ◌++◌, [], length, map, OnOk, IfOk};
 ghost use Rattle.std.specs.List.{All, flat_map};
+ghost use Rattle.std.specs.Str.{bytes_eq};
 ghost use Rattle.tree_model.specs.Paths as paths;
 ghost use Rattle.tree_model.specs.Rows.{label_of};
+ghost use Rattle.tree_model.specs.Sound.{is_empty};
 ghost use Rattle.doc_import.specs.Imported.{IsBuilt, built_lines, built_forest};
 ghost use Rattle.kernel_session.specs.Places.{places_of, child_places, step_places, AreTrees, Turn, tops_between, passing_between, passes_at, place_if};
 ghost use Rattle.kernel_session.specs.QueryView.{node_test};
@@ -10,17 +12,23 @@ ghost use Rattle.kernel_session.specs.QueryView.{node_test};
 use crate::order::in_document_order;
 use crate::query::Test;
 use doc_import::Built;
+use name_pool::NamePool;
 use std::alloc::{AllocError, Global};
-use tree_model::{Kind, Row, Text};
+use tree_model::{Kind, Name, Row};
 
-fn passes(test: &Test<'_>, row: &Row, names: &[Text]) -> bool
+// Whether a name is this one in no namespace.
+fn is_named(name: &Name, local: &[u8]) -> bool
+    ensures { result ≡ (is_empty name.now.uri && bytes_eq name.now.local local.now) }
+{
+    name.uri.as_str().is_empty() && name.local.as_str().as_bytes() == local
+}
+
+fn passes(test: &Test<'_>, row: &Row, names: &NamePool) -> bool
     requires { row.now.name < length names.now }
     ensures { result ≡ paths.passes (node_test test.now) (label_of names.now [] row.now) }
 {
     match test {
-        Test::Name(local) => {
-            row.kind == Kind::Elem && names[row.name as usize].as_str().as_bytes() == *local
-        }
+        Test::Name(local) => row.kind == Kind::Elem && is_named(names.name(row.name), *local),
         Test::Text => row.kind == Kind::Text,
     }
 }

@@ -2,3 +2,6 @@
 pub mod Outer
 pub mod Memory
 pub mod Calm
+pub mod Files
+pub mod MemoryFiles
+pub mod CalmFiles

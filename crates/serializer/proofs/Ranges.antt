@@ -8,6 +8,8 @@ use Rattle.tree_model.specs.Labels.{Label}
 use Rattle.tree_model.specs.Rows.{line_of, lines_of, ArePlaced}
 use Rattle.tree_model.specs.Printed.{row_text, row_texts, range_text}
 use Rattle.tree_model.specs.declared.row.Row.{Row}
+use Rattle.tree_model.specs.declared.text.Name.{Name}
+use Rattle.tree_model.proofs.Tables.{placed_behind, placed_before}
 
 -- the lines from a place on, each behind an LF
 abbrev pub more_text : ℕ → List (Line Label) → List ℕ
@@ -51,7 +53,7 @@ one_more n pre line lines out spaced new all e f text =
     ∙ ap (λ l. out ++ l) (sym (ahead_of n pre line lines))
     ∙ text
 
-pub row_more : (names : List (List ℕ)) (values : List ℕ) (rows : List Row) (row : Row) (i pre : ℕ) (out spaced new all : List ℕ) → i < length rows
+pub row_more : (names : List Name) (values : List ℕ) (rows : List Row) (row : Row) (i pre : ℕ) (out spaced new all : List ℕ) → i < length rows
     → spaced ≡ out ++ gap i → new ≡ spaced ++ row_text pre (line_of names values (get_or rows i row)) → out ++ text_ahead i pre (lines_of names values (drop i rows)) ≡ all
     → new ++ text_ahead (i + 1) (pre + 1) (lines_of names values (drop (i + 1) rows)) ≡ all
 row_more names values rows row i pre out spaced new all lt e f text =
@@ -59,26 +61,16 @@ row_more names values rows row i pre out spaced new all lt e f text =
     = ap (λ l. out ++ text_ahead i pre (lines_of names values l)) (sym (drop-cons rows i row lt)) ∙ text in
     rw (add-one i, add-one pre) (one_more i pre (line_of names values (get_or rows i row)) (lines_of names values (drop (suc i) rows)) out spaced new all e f split)
 
-placed_behind : (names : List (List ℕ)) (values : List ℕ) (rows : List Row) (n : ℕ) → ArePlaced names values rows → ArePlaced names values (drop n rows)
-placed_behind names values rows zero placed = placed
-placed_behind names values [] (suc n) placed = placed
-placed_behind names values (row ∷ rows) (suc n) placed = placed_behind names values rows n placed.2
-
-placed_before : (names : List (List ℕ)) (values : List ℕ) (rows : List Row) (n : ℕ) → ArePlaced names values rows → ArePlaced names values (take n rows)
-placed_before names values rows zero placed = tt
-placed_before names values [] (suc n) placed = placed
-placed_before names values (row ∷ rows) (suc n) placed = (placed.0, placed.1, placed_before names values rows n placed.2)
-
-placed_next : (names : List (List ℕ)) (values : List ℕ) (rows : List Row) (i : ℕ) → ArePlaced names values (drop i rows) → ArePlaced names values (drop (suc i) rows)
+placed_next : (names : List Name) (values : List ℕ) (rows : List Row) (i : ℕ) → ArePlaced names values (drop i rows) → ArePlaced names values (drop (suc i) rows)
 placed_next names values [] zero placed = placed
 placed_next names values (row ∷ rows) zero placed = placed.2
 placed_next names values [] (suc i) placed = placed
 placed_next names values (row ∷ rows) (suc i) placed = placed_next names values rows i placed
 
-pub placed_more : (names : List (List ℕ)) (values : List ℕ) (rows : List Row) (i : ℕ) → ArePlaced names values (drop i rows) → ArePlaced names values (drop (i + 1) rows)
+pub placed_more : (names : List Name) (values : List ℕ) (rows : List Row) (i : ℕ) → ArePlaced names values (drop i rows) → ArePlaced names values (drop (i + 1) rows)
 placed_more names values rows i placed = rw add-one (placed_next names values rows i placed)
 
-pub placed_within : (names : List (List ℕ)) (values : List ℕ) (rows : List Row) (n m : ℕ) → ArePlaced names values rows → ArePlaced names values (take n (drop m rows))
+pub placed_within : (names : List Name) (values : List ℕ) (rows : List Row) (n m : ℕ) → ArePlaced names values rows → ArePlaced names values (take n (drop m rows))
 placed_within names values rows n m placed = placed_before names values (drop m rows) n (placed_behind names values rows m placed)
 
 nothing_ahead : (n pre : ℕ) → text_ahead n pre [] ≡ []
@@ -90,7 +82,7 @@ take_none xs zero e = refl
 take_none [] (suc n) e = refl
 take_none (x ∷ xs) (suc n) e = absurd (omega arith)
 
-lines_within : (names : List (List ℕ)) (values : List ℕ) (rows : List Row) (n m : ℕ) → lines_of names values (take n (drop m rows)) ≡ take n (drop m (lines_of names values rows))
+lines_within : (names : List Name) (values : List ℕ) (rows : List Row) (n m : ℕ) → lines_of names values (take n (drop m rows)) ≡ take n (drop m (lines_of names values rows))
 lines_within names values rows n m = sym (ap (take n) (drop-map (line_of names values) m rows) ∙ take-map (line_of names values) n (drop m rows))
 
 no_rows : (lines : List (Line Label)) (from to : ℕ) → min (length lines) to ≤ from → take (to - from) (drop from lines) ≡ []
@@ -113,7 +105,7 @@ same_rows lines from to start end e f = same_by (cases_lt from end)
         ∙ ap (row_texts from) (take_min (to - from) (drop from lines))
 
 -- all rows of the range are printed
-pub range_printed : (names : List (List ℕ)) (values : List ℕ) (rows : List Row) (out before : List ℕ) (i pre from to start end : ℕ)
+pub range_printed : (names : List Name) (values : List ℕ) (rows : List Row) (out before : List ℕ) (i pre from to start end : ℕ)
     → IsFlat (lines_of names values rows) → end ≡ min (length rows) to → start ≡ min end from → length (take (end - start) (drop start rows)) ≤ i
     → out ++ text_ahead i pre (lines_of names values (drop i (take (end - start) (drop start rows)))) ≡ before ++ join_with_byte 10 (row_texts start (lines_of names values (take (end - start) (drop start rows))))
     → out ≡ before ++ range_text from to (grove_of (lines_of names values rows))
@@ -125,10 +117,3 @@ range_printed names values rows out before i pre from to start end flat e f past
     (ap (row_texts start) (lines_within names values rows (end - start) start)
     ∙ same_rows (lines_of names values rows) from to start end (e ∙ ap (λ n. min n to) (sym (length-map rows (line_of names values)))) f
     ∙ ap (λ l. row_texts from (take (to - from) (drop from l))) (sym flat))
-
--- of the row at a place
-pub placed_at : (names : List (List ℕ)) (values : List ℕ) (rows : List Row) (i : ℕ) (z : Row) → ArePlaced names values rows → i < length rows
-    → ((get_or rows i z).name < length names) × ((get_or rows i z).val.at + (get_or rows i z).val.len ≤ length values)
-placed_at names values [] i z placed lt = absurd (omega arith)
-placed_at names values (row ∷ rows) zero z placed lt = (placed.0, placed.1)
-placed_at names values (row ∷ rows) (suc i) z placed lt = placed_at names values rows i z placed.2 (omega arith)

@@ -11,6 +11,7 @@ use Rattle.tree_model.specs.declared.row.Kind.{Kind}
 use Rattle.tree_model.specs.declared.row.Kind.TheVariants.{Doc, Elem, Text, Attr, Comm, Pi}
 use Rattle.tree_model.specs.Rows.{label_of, line_of, lines_of}
 use Rattle.tree_model.specs.declared.row.Row.{Row}
+use Rattle.tree_model.specs.declared.text.Name.{Name}
 use Rattle.std.proofs.lemmas.List.{drop-drop, drop-map, take-map, length-map}
 use Rattle.std.proofs.lemmas.Simd.{map-map}
 use Rattle.std.proofs.lemmas.Bool.{lt-ltb, le-ltb, cases_lt}
@@ -87,11 +88,11 @@ reaches ls front more line at m e is = omega (arith, ap length e, length-drop at
 abbrev pub no_row : Row
 no_row = record { kind = Doc; name = 0; dist = 0; size = 0; asize = 0; id = 0; val = record { at = 0; len = 0 } }
 
-pub record IsRow (names : List (List ℕ)) (values : List ℕ) (rows : List Row) (at : ℕ) (line : Line Label) : Type 0 where
+pub record IsRow (names : List Name) (values : List ℕ) (rows : List Row) (at : ℕ) (line : Line Label) : Type 0 where
   pub within : at < length rows
   pub is : line_of names values (get_or rows at no_row) ≡ line
 
-row_there : (names : List (List ℕ)) (values : List ℕ) (rows : List Row) (at : ℕ) (line : Line Label) (behind : List (Line Label)) → drop at (lines_of names values rows) ≡ line ∷ behind → IsRow names values rows at line
+row_there : (names : List Name) (values : List ℕ) (rows : List Row) (at : ℕ) (line : Line Label) (behind : List (Line Label)) → drop at (lines_of names values rows) ≡ line ∷ behind → IsRow names values rows at line
 row_there names values [] zero line behind e = cc
 row_there names values [] (suc at) line behind e = cc
 row_there names values (row ∷ rows) zero line behind e = record { within = omega arith; is = cc }
@@ -184,7 +185,7 @@ all_over ls top at end out whole w e = by w.outer w.open_is w.text_is
     by (p ∷ outer) open_is text_is = absurd (omega (arith, w.at_is, open_is.1, open_is.2, top_below ls top p outer open_is.4))
 
 -- another one is, and has a parent
-pub record Inside (names : List (List ℕ)) (values : List ℕ) (rows : List Row) (top at end : ℕ) (out whole : List ℕ) (row parent : Row) : Type 0 where
+pub record Inside (names : List Name) (values : List ℕ) (rows : List Row) (top at end : ℕ) (out whole : List ℕ) (row parent : Row) : Type 0 where
   pub own_within : at < length rows
   pub forth : 0 < row.dist
   pub back : row.dist ≤ at
@@ -193,7 +194,7 @@ pub record Inside (names : List (List ℕ)) (values : List ℕ) (rows : List Row
   pub next : at - row.dist + parent.size ≢ end → Ahead (lines_of names values rows) top end out whole
   pub ends : (new : List ℕ) → at - row.dist + parent.size ≡ end → new ≡ out ++ back_text (label_of names values parent) → Ended (lines_of names values rows) top (at - row.dist) end new whole
 
-pub inside : (names : List (List ℕ)) (values : List ℕ) (rows : List Row) (top at end : ℕ) (out whole : List ℕ) → Ended (lines_of names values rows) top at end out whole → at ≢ top
+pub inside : (names : List Name) (values : List ℕ) (rows : List Row) (top at end : ℕ) (out whole : List ℕ) → Ended (lines_of names values rows) top at end out whole → at ≢ top
     → Inside names values rows top at end out whole (get_or rows at no_row) (get_or rows (at - (get_or rows at no_row).dist) no_row)
 inside names values rows top at end out whole w apart = by w.outer w.open_is w.lines_are w.text_is
   where
@@ -267,7 +268,7 @@ inside names values rows top at end out whole w apart = by w.outer w.open_is w.l
 
 -- ---- a turn
 
-pub record Turn (names : List (List ℕ)) (values : List ℕ) (rows : List Row) (top at : ℕ) (out whole : List ℕ) (row : Row) : Type 0 where
+pub record Turn (names : List Name) (values : List ℕ) (rows : List Row) (top at : ℕ) (out whole : List ℕ) (row : Row) : Type 0 where
   pub own_within : at < length rows
   pub own_asize : 0 < row.asize
   pub own_size : 0 < row.size
@@ -277,7 +278,7 @@ pub record Turn (names : List (List ℕ)) (values : List ℕ) (rows : List Row) 
   pub printed : (new : List ℕ) (attrs : List Row) → attrs ≡ slice_range rows (at + 1) (at + row.asize) → opens row.kind row.asize row.size ≡ false
       → new ≡ out ++ front_text (label_of names values row) (map (label_of names values) attrs) (nat_lt row.asize row.size) → Ended (lines_of names values rows) top at (at + row.size) new whole
 
-pub turn : (names : List (List ℕ)) (values : List ℕ) (rows : List Row) (top at : ℕ) (out whole : List ℕ) → Ahead (lines_of names values rows) top at out whole → Turn names values rows top at out whole (get_or rows at no_row)
+pub turn : (names : List Name) (values : List ℕ) (rows : List Row) (top at : ℕ) (out whole : List ℕ) → Ahead (lines_of names values rows) top at out whole → Turn names values rows top at out whole (get_or rows at no_row)
 turn names values rows top at out whole w =
     let ls : List (Line Label) = lines_of names values rows in
     let row : Row = get_or rows at no_row in
@@ -368,7 +369,7 @@ some_node ls top flat lt =
     in_map place_of (nodes (grove_of ls)) top (subst P (sym (node_places 0 (grove_of ls))) (in_range 0 (count (grove_of ls)) top (omega arith) (omega (arith, flat-length ls flat))))
 
 -- so where each node there leaves something to print, there is a turn
-pub some_turn : (names : List (List ℕ)) (values : List ℕ) (rows : List Row) (top at : ℕ) (out before : List ℕ) → IsFlat (lines_of names values rows) → top < length rows
+pub some_turn : (names : List Name) (values : List ℕ) (rows : List Row) (top at : ℕ) (out before : List ℕ) → IsFlat (lines_of names values rows) → top < length rows
     → ((node : Node Label) → Contains (nodes (grove_of (lines_of names values rows))) node → node.place ≡ top → Ahead (lines_of names values rows) top at out (before ++ node_text node))
     → (whole : List ℕ) × Turn names values rows top at out whole (get_or rows at no_row)
 some_turn names values rows top at out before flat lt ahead =

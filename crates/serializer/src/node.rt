@@ -4,14 +4,15 @@ ghost use Rattle.std.specs.List.{Contains, flat_map};
 ghost use Rattle.tree_model.specs.Forest.{grove_of, IsFlat};
 ghost use Rattle.tree_model.specs.Labels.{Label};
 ghost use Rattle.tree_model.specs.Nodes.{Node, nodes};
-ghost use Rattle.tree_model.specs.Printing.{node_text, start_text, attr_text, pi_text};
+ghost use Rattle.tree_model.specs.Printing.{node_text, start_text, attr_text, pi_text, written_name};
 ghost use Rattle.tree_model.specs.Rows.{label_of, lines_of, ArePlaced};
 ghost use Rattle.serializer.specs.Growth.{Grew};
 ghost use Rattle.serializer.specs.Opened.{opens, tag_text, front_text, back_text, Ended, Then};
 
 use crate::escape::{AttributeValue, CharacterData, push_byte, push_bytes, push_escaped};
-use crate::storage::{name_of, value_of};
-use tree_model::{Kind, NoMemory, Row, Text};
+use name_pool::NamePool;
+use tree_model::{Kind, Name, NoMemory, Row};
+use value_heap::ValueHeap;
 
 // Whether the rows below a row, its attributes aside, are printed too.
 fn opens(row: &Row) -> bool
@@ -29,32 +30,46 @@ fn attributes(rows: &[Row], at: usize, asize: u32) -> &[Row]
     &rows[at + 1..at + asize as usize]
 }
 
+// A name as it is written: its prefix and a colon, where it has one, and its local part.
+#[tactic(auto, using(crate::proofs::Growing::grew_twice), unfolding(tree_model::specs::Printing::written_name))]
+fn push_name(out: &mut Vec<u8>, name: &Name) -> Result<(), NoMemory>
+    ensures text { OnOk result (out.new.items ≡ out.old.items ++ written_name name.now) }
+    ensures kept { Grew out.old.items out.new.items }
+{
+    let prefix = name.prefix.as_str().as_bytes();
+    if !prefix.is_empty() {
+        push_bytes(out, prefix)?;
+        push_byte(out, b':')?;
+    }
+    push_bytes(out, name.local.as_str().as_bytes())
+}
+
 // The rows of a table with what their numbers stand for.
 #[derive(Clone, Copy)]
 struct Table<'a> {
     rows: &'a [Row],
-    names: &'a [Text],
-    values: &'a [u8],
+    names: &'a NamePool,
+    heap: &'a ValueHeap,
 }
 
 impl Table<'_> {
     #[tactic(auto, using(crate::proofs::Growing::grew_twice))]
     fn push_attribute(&self, row: &Row, out: &mut Vec<u8>) -> Result<(), NoMemory>
         requires name { row.now.name < length self.now.names.now }
-        requires value { row.now.val.at + row.now.val.len ≤ length self.now.values.now }
-        ensures text { OnOk result (out.new.items ≡ out.old.items ++ attr_text (label_of self.now.names.now self.now.values.now row.now)) }
+        requires value { row.now.val.at + row.now.val.len ≤ length self.now.heap.now }
+        ensures text { OnOk result (out.new.items ≡ out.old.items ++ attr_text (label_of self.now.names.now self.now.heap.now row.now)) }
         ensures kept { Grew out.old.items out.new.items }
     {
-        push_bytes(out, name_of(self.names, row))?;
+        push_name(out, self.names.name(row.name))?;
         push_bytes(out, b"=\"")?;
-        push_escaped::<AttributeValue>(out, value_of(self.values, row))?;
+        push_escaped::<AttributeValue>(out, self.heap.get(row.val))?;
         push_byte(out, b'"')
     }
 
     // Each attribute behind a space.
     fn push_attributes(&self, attrs: &[Row], out: &mut Vec<u8>) -> Result<(), NoMemory>
-        requires placed { ArePlaced self.now.names.now self.now.values.now attrs.now }
-        ensures text { OnOk result (out.new.items ≡ out.old.items ++ flat_map (λ attr. 32 ∷ attr_text attr) (map (label_of self.now.names.now self.now.values.now) attrs.now)) }
+        requires placed { ArePlaced self.now.names.now self.now.heap.now attrs.now }
+        ensures text { OnOk result (out.new.items ≡ out.old.items ++ flat_map (λ attr. 32 ∷ attr_text attr) (map (label_of self.now.names.now self.now.heap.now) attrs.now)) }
         ensures kept { Grew out.old.items out.new.items }
     {
         for row in attrs {
@@ -67,36 +82,36 @@ impl Table<'_> {
     #[tactic(auto, using(crate::proofs::Growing::grew_twice))]
     fn push_start(&self, row: &Row, attrs: &[Row], out: &mut Vec<u8>) -> Result<(), NoMemory>
         requires name { row.now.name < length self.now.names.now }
-        requires placed { ArePlaced self.now.names.now self.now.values.now attrs.now }
-        ensures text { OnOk result (out.new.items ≡ out.old.items ++ start_text (label_of self.now.names.now self.now.values.now row.now) (map (label_of self.now.names.now self.now.values.now) attrs.now)) }
+        requires placed { ArePlaced self.now.names.now self.now.heap.now attrs.now }
+        ensures text { OnOk result (out.new.items ≡ out.old.items ++ start_text (label_of self.now.names.now self.now.heap.now row.now) (map (label_of self.now.names.now self.now.heap.now) attrs.now)) }
         ensures kept { Grew out.old.items out.new.items }
     {
         push_byte(out, b'<')?;
-        push_bytes(out, name_of(self.names, row))?;
+        push_name(out, self.names.name(row.name))?;
         self.push_attributes(attrs, out)
     }
 
     #[tactic(auto, using(crate::proofs::Growing::grew_twice))]
     fn push_comment(&self, row: &Row, out: &mut Vec<u8>) -> Result<(), NoMemory>
-        requires value { row.now.val.at + row.now.val.len ≤ length self.now.values.now }
-        ensures text { OnOk result (out.new.items ≡ out.old.items ++ (codes "<!--" ++ ((label_of self.now.names.now self.now.values.now row.now).value ++ codes "-->"))) }
+        requires value { row.now.val.at + row.now.val.len ≤ length self.now.heap.now }
+        ensures text { OnOk result (out.new.items ≡ out.old.items ++ (codes "<!--" ++ ((label_of self.now.names.now self.now.heap.now row.now).value ++ codes "-->"))) }
         ensures kept { Grew out.old.items out.new.items }
     {
         push_bytes(out, b"<!--")?;
-        push_bytes(out, value_of(self.values, row))?;
+        push_bytes(out, self.heap.get(row.val))?;
         push_bytes(out, b"-->")
     }
 
     #[tactic(auto, using(crate::proofs::Growing::grew_twice))]
     fn push_instruction(&self, row: &Row, out: &mut Vec<u8>) -> Result<(), NoMemory>
         requires name { row.now.name < length self.now.names.now }
-        requires value { row.now.val.at + row.now.val.len ≤ length self.now.values.now }
-        ensures text { OnOk result (out.new.items ≡ out.old.items ++ pi_text (label_of self.now.names.now self.now.values.now row.now)) }
+        requires value { row.now.val.at + row.now.val.len ≤ length self.now.heap.now }
+        ensures text { OnOk result (out.new.items ≡ out.old.items ++ pi_text (label_of self.now.names.now self.now.heap.now row.now)) }
         ensures kept { Grew out.old.items out.new.items }
     {
         push_bytes(out, b"<?")?;
-        push_bytes(out, name_of(self.names, row))?;
-        let value = value_of(self.values, row);
+        push_name(out, self.names.name(row.name))?;
+        let value = self.heap.get(row.val);
         if value.is_empty() {
             return push_bytes(out, b"?>");
         }
@@ -109,8 +124,8 @@ impl Table<'_> {
     #[tactic(auto, using(crate::proofs::Growing::grew_twice))]
     fn push_tag(&self, row: &Row, attrs: &[Row], out: &mut Vec<u8>) -> Result<(), NoMemory>
         requires name { row.now.name < length self.now.names.now }
-        requires placed { ArePlaced self.now.names.now self.now.values.now attrs.now }
-        ensures text { OnOk result (out.new.items ≡ out.old.items ++ tag_text (label_of self.now.names.now self.now.values.now row.now) (map (label_of self.now.names.now self.now.values.now) attrs.now) (nat_lt row.now.asize row.now.size)) }
+        requires placed { ArePlaced self.now.names.now self.now.heap.now attrs.now }
+        ensures text { OnOk result (out.new.items ≡ out.old.items ++ tag_text (label_of self.now.names.now self.now.heap.now row.now) (map (label_of self.now.names.now self.now.heap.now) attrs.now) (nat_lt row.now.asize row.now.size)) }
         ensures kept { Grew out.old.items out.new.items }
     {
         self.push_start(row, attrs, out)?;
@@ -124,15 +139,15 @@ impl Table<'_> {
     #[tactic(auto, using(crate::proofs::Growing::grew_none))]
     fn push_front(&self, row: &Row, attrs: &[Row], out: &mut Vec<u8>) -> Result<(), NoMemory>
         requires name { row.now.name < length self.now.names.now }
-        requires value { row.now.val.at + row.now.val.len ≤ length self.now.values.now }
-        requires placed { ArePlaced self.now.names.now self.now.values.now attrs.now }
-        ensures text { OnOk result (out.new.items ≡ out.old.items ++ front_text (label_of self.now.names.now self.now.values.now row.now) (map (label_of self.now.names.now self.now.values.now) attrs.now) (nat_lt row.now.asize row.now.size)) }
+        requires value { row.now.val.at + row.now.val.len ≤ length self.now.heap.now }
+        requires placed { ArePlaced self.now.names.now self.now.heap.now attrs.now }
+        ensures text { OnOk result (out.new.items ≡ out.old.items ++ front_text (label_of self.now.names.now self.now.heap.now row.now) (map (label_of self.now.names.now self.now.heap.now) attrs.now) (nat_lt row.now.asize row.now.size)) }
         ensures kept { Grew out.old.items out.new.items }
     {
         match row.kind {
             Kind::Doc => Ok(()),
             Kind::Elem => self.push_tag(row, attrs, out),
-            Kind::Text => push_escaped::<CharacterData>(out, value_of(self.values, row)),
+            Kind::Text => push_escaped::<CharacterData>(out, self.heap.get(row.val)),
             Kind::Attr => self.push_attribute(row, out),
             Kind::Comm => self.push_comment(row, out),
             Kind::Pi => self.push_instruction(row, out),
@@ -143,14 +158,14 @@ impl Table<'_> {
     #[tactic(auto, using(crate::proofs::Growing::grew_none, crate::proofs::Growing::grew_twice))]
     fn push_end(&self, row: &Row, out: &mut Vec<u8>) -> Result<(), NoMemory>
         requires name { row.now.name < length self.now.names.now }
-        ensures text { OnOk result (out.new.items ≡ out.old.items ++ back_text (label_of self.now.names.now self.now.values.now row.now)) }
+        ensures text { OnOk result (out.new.items ≡ out.old.items ++ back_text (label_of self.now.names.now self.now.heap.now row.now)) }
         ensures kept { Grew out.old.items out.new.items }
     {
         if row.kind != Kind::Elem {
             return Ok(());
         }
         push_bytes(out, b"</")?;
-        push_bytes(out, name_of(self.names, row))?;
+        push_name(out, self.names.name(row.name))?;
         push_byte(out, b'>')
     }
 
@@ -163,9 +178,9 @@ impl Table<'_> {
         end: usize,
         out: &mut Vec<u8>,
     ) -> Result<bool, NoMemory>
-        requires placed { ArePlaced self.now.names.now self.now.values.now self.now.rows.now }
-        requires ended { (whole : List ℕ) × Ended (lines_of self.now.names.now self.now.values.now self.now.rows.now) top last end out.old.items whole }
-        ensures text { IfOk result (λ all. (whole : List ℕ) → Ended (lines_of self.now.names.now self.now.values.now self.now.rows.now) top last end out.old.items whole → Then (lines_of self.now.names.now self.now.values.now self.now.rows.now) top end all out.new.items whole) }
+        requires placed { ArePlaced self.now.names.now self.now.heap.now self.now.rows.now }
+        requires ended { (whole : List ℕ) × Ended (lines_of self.now.names.now self.now.heap.now self.now.rows.now) top last end out.old.items whole }
+        ensures text { IfOk result (λ all. (whole : List ℕ) → Ended (lines_of self.now.names.now self.now.heap.now self.now.rows.now) top last end out.old.items whole → Then (lines_of self.now.names.now self.now.heap.now self.now.rows.now) top end all out.new.items whole) }
         ensures kept { Grew out.old.items out.new.items }
     {
         let mut inner = last;
@@ -187,22 +202,18 @@ impl Table<'_> {
 /// indented. After `NoMemory` a part of the text may stand behind what `out` had before.
 pub fn print_node(
     rows: &[Row],
-    names: &[Text],
-    values: &[u8],
+    names: &NamePool,
+    heap: &ValueHeap,
     pre: u32,
     out: &mut Vec<u8>,
 ) -> Result<(), NoMemory>
-    requires placed { ArePlaced names.now values.now rows.now }
-    requires flat { IsFlat (lines_of names.now values.now rows.now) }
+    requires placed { ArePlaced names.now heap.now rows.now }
+    requires flat { IsFlat (lines_of names.now heap.now rows.now) }
     requires within { pre < length rows.now }
-    ensures text { OnOk result ((node : Node Label) → Contains (nodes (grove_of (lines_of names.now values.now rows.now))) node → node.place ≡ pre → out.new.items ≡ out.old.items ++ node_text node) }
+    ensures text { OnOk result ((node : Node Label) → Contains (nodes (grove_of (lines_of names.now heap.now rows.now))) node → node.place ≡ pre → out.new.items ≡ out.old.items ++ node_text node) }
     ensures kept { Grew out.old.items out.new.items }
 {
-    let table = Table {
-        rows,
-        names,
-        values,
-    };
+    let table = Table { rows, names, heap };
     let top = pre as usize;
     let mut at = top;
     loop {

@@ -1,14 +1,15 @@
 // The text of the rows of a table.
 ghost use Rattle.std.specs.Prelude.{◌≡◌, ◌+◌, ◌≤◌, ◌<◌, ◌++◌, [], ◌∷◌, length, take, drop, IsTrue, OnOk, decimal};
 ghost use Rattle.tree_model.specs.Forest.{grove_of, IsFlat};
-ghost use Rattle.tree_model.specs.Labels.{local_name};
-ghost use Rattle.tree_model.specs.Rows.{name_at, value_at, line_of, lines_of, ArePlaced};
+ghost use Rattle.tree_model.specs.Rows.{line_of, lines_of, ArePlaced};
 ghost use Rattle.tree_model.specs.Printed as printed;
 ghost use Rattle.serializer.specs.Growth.{Grew};
 
 use crate::escape::{RowContent, push_byte, push_bytes, push_escaped};
 use itoa::Buffer;
-use tree_model::{Kind, NoMemory, Row, Text};
+use name_pool::NamePool;
+use tree_model::{Kind, Name, NoMemory, Row};
+use value_heap::ValueHeap;
 
 fn kind_word(kind: Kind) -> &'static str
     ensures { result.now ≡ printed.kind_word kind }
@@ -45,36 +46,62 @@ fn push_field(out: &mut Vec<u8>, n: u64) -> Result<(), NoMemory>
     push_byte(out, b' ')
 }
 
-#[tactic(auto, using(crate::proofs::Growing::grew_twice))]
-fn push_attribute(out: &mut Vec<u8>, name: &[u8], value: &[u8]) -> Result<(), NoMemory>
-    ensures text { OnOk result (out.new.items ≡ out.old.items ++ printed.content_of Kind.Attr (local_name name.now) value.now) }
+// Bytes between two others, or nothing where there are none.
+#[tactic(auto, using(crate::proofs::Growing::grew_none, crate::proofs::Growing::grew_twice), unfolding(tree_model::specs::Printed::between))]
+fn push_between(
+    out: &mut Vec<u8>,
+    opening: &[u8],
+    bytes: &[u8],
+    closing: &[u8],
+) -> Result<(), NoMemory>
+    ensures text { OnOk result (out.new.items ≡ out.old.items ++ printed.between opening.now bytes.now closing.now) }
     ensures kept { Grew out.old.items out.new.items }
 {
-    push_escaped::<RowContent>(out, name)?;
+    if bytes.is_empty() {
+        return Ok(());
+    }
+    push_bytes(out, opening)?;
+    push_escaped::<RowContent>(out, bytes)?;
+    push_bytes(out, closing)
+}
+
+// A name with its uri.
+#[tactic(auto, using(crate::proofs::Growing::grew_twice), unfolding(tree_model::specs::Printed::name_text))]
+fn push_name(out: &mut Vec<u8>, name: &Name) -> Result<(), NoMemory>
+    ensures text { OnOk result (out.new.items ≡ out.old.items ++ printed.name_text name.now) }
+    ensures kept { Grew out.old.items out.new.items }
+{
+    push_between(out, b"{", name.uri.as_str().as_bytes(), b"}")?;
+    push_between(out, &[], name.prefix.as_str().as_bytes(), b":")?;
+    push_escaped::<RowContent>(out, name.local.as_str().as_bytes())
+}
+
+#[tactic(auto, using(crate::proofs::Growing::grew_twice))]
+fn push_attribute(out: &mut Vec<u8>, name: &Name, value: &[u8]) -> Result<(), NoMemory>
+    ensures text { OnOk result (out.new.items ≡ out.old.items ++ printed.content_of Kind.Attr name.now value.now) }
+    ensures kept { Grew out.old.items out.new.items }
+{
+    push_name(out, name)?;
     push_bytes(out, b"=\"")?;
     push_escaped::<RowContent>(out, value)?;
     push_bytes(out, b"\"")
 }
 
 #[tactic(auto, using(crate::proofs::Growing::grew_twice))]
-fn push_instruction(out: &mut Vec<u8>, name: &[u8], value: &[u8]) -> Result<(), NoMemory>
-    ensures text { OnOk result (out.new.items ≡ out.old.items ++ printed.content_of Kind.Pi (local_name name.now) value.now) }
+fn push_instruction(out: &mut Vec<u8>, name: &Name, value: &[u8]) -> Result<(), NoMemory>
+    ensures text { OnOk result (out.new.items ≡ out.old.items ++ printed.content_of Kind.Pi name.now value.now) }
     ensures kept { Grew out.old.items out.new.items }
 {
-    push_escaped::<RowContent>(out, name)?;
-    if value.is_empty() {
-        return Ok(());
-    }
-    push_byte(out, b' ')?;
-    push_escaped::<RowContent>(out, value)
+    push_name(out, name)?;
+    push_between(out, b" ", value, &[])
 }
 
-fn push_content(out: &mut Vec<u8>, kind: Kind, name: &[u8], value: &[u8]) -> Result<(), NoMemory>
-    ensures text { OnOk result (out.new.items ≡ out.old.items ++ printed.content_of kind (local_name name.now) value.now) }
+fn push_content(out: &mut Vec<u8>, kind: Kind, name: &Name, value: &[u8]) -> Result<(), NoMemory>
+    ensures text { OnOk result (out.new.items ≡ out.old.items ++ printed.content_of kind name.now value.now) }
     ensures kept { Grew out.old.items out.new.items }
 {
     match kind {
-        Kind::Elem => push_escaped::<RowContent>(out, name),
+        Kind::Elem => push_name(out, name),
         Kind::Attr => push_attribute(out, name, value),
         Kind::Pi => push_instruction(out, name, value),
         Kind::Doc | Kind::Text | Kind::Comm => push_escaped::<RowContent>(out, value),
@@ -96,36 +123,21 @@ fn push_head(out: &mut Vec<u8>, pre: u64, row: &Row) -> Result<(), NoMemory>
     push_byte(out, b' ')
 }
 
-pub(crate) fn name_of<'a>(names: &'a [Text], row: &Row) -> &'a [u8]
-    requires { row.now.name < length names.now }
-    ensures { result.now ≡ name_at names.now row.now.name }
-{
-    names[row.name as usize].as_str().as_bytes()
-}
-
-pub(crate) fn value_of<'a>(values: &'a [u8], row: &Row) -> &'a [u8]
-    requires { row.now.val.at + row.now.val.len ≤ length values.now }
-    ensures { result.now ≡ value_at values.now row.now.val }
-{
-    let from = row.val.at as usize;
-    &values[from..from + row.val.len as usize]
-}
-
 #[tactic(auto, using(crate::proofs::Growing::grew_twice))]
 fn push_row(
     out: &mut Vec<u8>,
     pre: u64,
     row: &Row,
-    names: &[Text],
-    values: &[u8],
+    names: &NamePool,
+    heap: &ValueHeap,
 ) -> Result<(), NoMemory>
     requires name { row.now.name < length names.now }
-    requires value { row.now.val.at + row.now.val.len ≤ length values.now }
-    ensures text { OnOk result (out.new.items ≡ out.old.items ++ printed.row_text pre (line_of names.now values.now row.now)) }
+    requires value { row.now.val.at + row.now.val.len ≤ length heap.now }
+    ensures text { OnOk result (out.new.items ≡ out.old.items ++ printed.row_text pre (line_of names.now heap.now row.now)) }
     ensures kept { Grew out.old.items out.new.items }
 {
     push_head(out, pre, row)?;
-    push_content(out, row.kind, name_of(names, row), value_of(values, row))
+    push_content(out, row.kind, names.name(row.name), heap.get(row.val))
 }
 
 /// Appends a line for each row from `from` up to and without `to`, joined by LF, with none behind the last: `pre dist size
@@ -134,15 +146,15 @@ fn push_row(
 /// `NoMemory` a part of the text may stand behind what `out` had before.
 pub fn print_storage(
     rows: &[Row],
-    names: &[Text],
-    values: &[u8],
+    names: &NamePool,
+    heap: &ValueHeap,
     from: u32,
     to: u32,
     out: &mut Vec<u8>,
 ) -> Result<(), NoMemory>
-    requires placed { ArePlaced names.now values.now rows.now }
-    requires flat { IsFlat (lines_of names.now values.now rows.now) }
-    ensures text { OnOk result (out.new.items ≡ out.old.items ++ printed.range_text from to (grove_of (lines_of names.now values.now rows.now))) }
+    requires placed { ArePlaced names.now heap.now rows.now }
+    requires flat { IsFlat (lines_of names.now heap.now rows.now) }
+    ensures text { OnOk result (out.new.items ≡ out.old.items ++ printed.range_text from to (grove_of (lines_of names.now heap.now rows.now))) }
     ensures kept { Grew out.old.items out.new.items }
 {
     let end = rows.len().min(to as usize);
@@ -153,7 +165,7 @@ pub fn print_storage(
         if pre != first {
             push_byte(out, b'\n')?;
         }
-        push_row(out, pre, row, names, values)?;
+        push_row(out, pre, row, names, heap)?;
         pre += 1;
     }
     Ok(())

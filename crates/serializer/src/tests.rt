@@ -1,8 +1,11 @@
 ghost use Rattle.std.specs.Prelude.{◌<◌};
 
 use super::*;
+use name_pool::NamePool;
+use std::alloc::Global;
 use std::test::Fail;
-use tree_model::{Kind, Row, Text, ValueRef};
+use tree_model::{Kind, NoMemory, Row, ValueRef};
+use value_heap::ValueHeap;
 
 const LEAF: Row = Row {
     kind: Kind::Elem,
@@ -14,8 +17,24 @@ const LEAF: Row = Row {
     val: ValueRef { at: 0, len: 0 },
 };
 
+// The names of these parts.
+fn pool(alloc: Global, names: &[(&str, &str, &str)]) -> Result<NamePool, NoMemory> {
+    let mut pool = NamePool::new(alloc);
+    for (uri, prefix, local) in names {
+        pool.intern_parts(uri, prefix, local)?;
+    }
+    Ok(pool)
+}
+
+// A heap with these bytes.
+fn heap(alloc: Global, bytes: &[u8]) -> Result<ValueHeap, NoMemory> {
+    let mut heap = ValueHeap::new(alloc);
+    heap.append(bytes)?;
+    Ok(heap)
+}
+
 // What stands in a buffer with these bytes once the rows of a range are printed to it. The document `d.xml` has an
-// element `a`, in which an element `b` and a text with a TAB stand.
+// element `a`, in which an element `p:b` and a text with a TAB stand.
 fn printed(rt: &HostRuntime, before: &[u8], from: u32, to: u32) -> Result<Vec<u8>, Fail> {
     let rows = [
         Row {
@@ -44,13 +63,16 @@ fn printed(rt: &HostRuntime, before: &[u8], from: u32, to: u32) -> Result<Vec<u8
             ..LEAF
         },
     ];
-    let names = vec![in rt.alloc();
-        Text::of(rt.alloc(), "")?,
-        Text::of(rt.alloc(), "a")?,
-        Text::of(rt.alloc(), "b")?,
-    ]?;
+    let names = pool(
+        rt.alloc(),
+        &[("", "", ""), ("", "", "a"), ("u\t", "p", "b")],
+    )?;
+    let heap = heap(rt.alloc(), b"d.xmlx\ty")?;
+    if names.len() != 3 || heap.mark() != 8 {
+        return Err(Fail::from("other names or values"));
+    }
     let mut out = before.to_vec(rt.alloc())?;
-    print_storage(&rows, &names, b"d.xmlx\ty", from, to, &mut out)?;
+    print_storage(&rows, &names, &heap, from, to, &mut out)?;
     Ok(out)
 }
 
@@ -58,7 +80,7 @@ fn printed(rt: &HostRuntime, before: &[u8], from: u32, to: u32) -> Result<Vec<u8
 fn all_rows_behind_other_bytes(rt: HostRuntime) -> Result<(), Fail> {
     assert_eq!(rt;
         printed(&rt, b"ok\n", 0, 4)?.as_slice(),
-        b"ok\n0 0 4 1 0 doc d.xml\n1 1 3 1 12 elem a\n2 1 1 1 9 elem b\n3 2 1 1 5 text x\\ty".as_slice()
+        b"ok\n0 0 4 1 0 doc d.xml\n1 1 3 1 12 elem a\n2 1 1 1 9 elem {u\\t}p:b\n3 2 1 1 5 text x\\ty".as_slice()
     );
     Ok(())
 }
@@ -67,7 +89,7 @@ fn all_rows_behind_other_bytes(rt: HostRuntime) -> Result<(), Fail> {
 fn rows_of_a_range(rt: HostRuntime) -> Result<(), Fail> {
     assert_eq!(rt;
         printed(&rt, b"", 1, 3)?.as_slice(),
-        b"1 1 3 1 12 elem a\n2 1 1 1 9 elem b".as_slice()
+        b"1 1 3 1 12 elem a\n2 1 1 1 9 elem {u\\t}p:b".as_slice()
     );
     assert_eq!(rt;
         printed(&rt, b".", 3, 9)?.as_slice(),
@@ -85,8 +107,8 @@ fn empty_ranges(rt: HostRuntime) -> Result<(), Fail> {
 }
 
 // What stands in a buffer with these bytes once a node is printed to it. The document `d.xml` has an element `r` with the
-// attributes `a` and `b`. In it stand an empty element `e`, an element `m` with a text, a comment, and an instruction `go`
-// without and with a value. The value of `a` and the text have all bytes that don't stand as they are.
+// attributes `p:a` and `b`. In it stand an empty element `e`, an element `p:m` with a text, a comment, and an instruction `go`
+// without and with a value. The value of `p:a` and the text have all bytes that don't stand as they are.
 fn xml(rt: &HostRuntime, before: &[u8], pre: u32) -> Result<Vec<u8>, Fail>
     requires { pre < 10 }
 {
@@ -152,30 +174,31 @@ fn xml(rt: &HostRuntime, before: &[u8], pre: u32) -> Result<Vec<u8>, Fail>
             ..LEAF
         },
     ];
-    let names = vec![in rt.alloc();
-        Text::of(rt.alloc(), "")?,
-        Text::of(rt.alloc(), "r")?,
-        Text::of(rt.alloc(), "a")?,
-        Text::of(rt.alloc(), "b")?,
-        Text::of(rt.alloc(), "e")?,
-        Text::of(rt.alloc(), "m")?,
-        Text::of(rt.alloc(), "go")?,
-    ]?;
-    let mut out = before.to_vec(rt.alloc())?;
-    print_node(
-        &rows,
-        &names,
-        b"d.xml&<>\"\t\n\r'x&<>\r\n\"a < bon",
-        pre,
-        &mut out,
+    let names = pool(
+        rt.alloc(),
+        &[
+            ("", "", ""),
+            ("", "", "r"),
+            ("u", "p", "a"),
+            ("", "", "b"),
+            ("", "", "e"),
+            ("u", "p", "m"),
+            ("", "", "go"),
+        ],
     )?;
+    let heap = heap(rt.alloc(), b"d.xml&<>\"\t\n\r'x&<>\r\n\"a < bon")?;
+    if names.len() != 7 || heap.mark() != 27 {
+        return Err(Fail::from("other names or values"));
+    }
+    let mut out = before.to_vec(rt.alloc())?;
+    print_node(&rows, &names, &heap, pre, &mut out)?;
     Ok(out)
 }
 
 #[test]
 fn a_document_is_its_content(rt: HostRuntime) -> Result<(), Fail> {
     let all =
-        b"<r a=\"&amp;&lt;&gt;&quot;&#9;&#10;&#13;'\" b=\"\"><e/><m>x&amp;&lt;&gt;&#13;\n\"</m><!--a < b--><?go?><?go on?></r>";
+        b"<r p:a=\"&amp;&lt;&gt;&quot;&#9;&#10;&#13;'\" b=\"\"><e/><p:m>x&amp;&lt;&gt;&#13;\n\"</p:m><!--a < b--><?go?><?go on?></r>";
     assert_eq!(rt; xml(&rt, b"", 0)?.as_slice(), all.as_slice());
     assert_eq!(rt; xml(&rt, b"", 1)?.as_slice(), all.as_slice());
     Ok(())
@@ -187,7 +210,7 @@ fn nodes_behind_other_bytes(rt: HostRuntime) -> Result<(), Fail> {
     assert_eq!(rt; xml(&rt, b".", 4)?.as_slice(), b".<e/>".as_slice());
     assert_eq!(rt;
         xml(&rt, b".", 5)?.as_slice(),
-        b".<m>x&amp;&lt;&gt;&#13;\n\"</m>".as_slice()
+        b".<p:m>x&amp;&lt;&gt;&#13;\n\"</p:m>".as_slice()
     );
     assert_eq!(rt;
         xml(&rt, b".", 6)?.as_slice(),

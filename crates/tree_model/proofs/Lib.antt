@@ -1,3 +1,10 @@
 pub mod Numbering
 pub mod Soundness
 pub mod Standing
+pub mod XmlUtf8
+pub mod XmlSoundTexts
+pub mod XmlSoundWords
+pub mod XmlSoundScopes
+pub mod XmlSoundForests
+pub mod XmlSoundness
+pub mod Tables

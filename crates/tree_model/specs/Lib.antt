@@ -19,6 +19,7 @@ pub mod XmlGood
 pub mod XmlMeaning
 pub mod XmlReads
 pub mod ReadsSound
+pub mod XmlReadsSound
 pub mod States
 pub mod Codes
 pub mod CodeTexts

@@ -25,12 +25,12 @@ abbrev pub escaped : List ℕ → List ℕ
 escaped bytes = flat_map escape bytes
 
 -- the bytes between two others, or nothing where there are none
-abbrev pub between : List ℕ → List ℕ → List ℕ → List ℕ
+unfoldable pub between : List ℕ → List ℕ → List ℕ → List ℕ
 between opening [] closing = []
 between opening (c ∷ bytes) closing = opening ++ (escaped (c ∷ bytes) ++ closing)
 
 -- {uri}prefix:local, each part only where it isn't empty
-abbrev pub name_text : Name → List ℕ
+unfoldable pub name_text : Name → List ℕ
 name_text name = between (codes "{") name.uri (codes "}") ++ (between [] name.prefix (codes ":") ++ escaped name.local)
 
 abbrev pub content_of : Kind → Name → List ℕ → List ℕ

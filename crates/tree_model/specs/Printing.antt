@@ -24,7 +24,7 @@ abbrev pub value_text : List ℕ → List ℕ
 value_text value = flat_map escape_value value
 
 -- a name as it is written: prefix:local, or the local part alone
-abbrev pub written_name : Name → List ℕ
+unfoldable pub written_name : Name → List ℕ
 written_name name = by name.prefix
   where
     by : List ℕ → List ℕ

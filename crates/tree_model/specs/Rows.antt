@@ -3,25 +3,27 @@ use Rattle.std.specs.Prelude.{◌<◌, ◌≤◌, ℕ, ◌+◌, List, [], ◌∷
 use Rattle.std.specs.List.{slice_index_or}
 use Rattle.tree_model.specs.Forest.{Line}
 use Rattle.tree_model.specs.Labels.{Label, local_name}
+use Rattle.tree_model.specs.declared.text.Name.{Name}
 use Rattle.tree_model.specs.declared.row.Row.{Row}
 use Rattle.tree_model.specs.declared.row.ValueRef.{ValueRef}
 
-abbrev pub name_at : List (List ℕ) → ℕ → List ℕ
-name_at names n = slice_index_or names n []
+-- the name with a number
+abbrev pub name_at : List Name → ℕ → Name
+name_at names n = slice_index_or names n (local_name [])
 
 abbrev pub value_at : List ℕ → ValueRef → List ℕ
 value_at values val = slice_range values val.at (val.at + val.len)
 
-abbrev pub label_of : List (List ℕ) → List ℕ → Row → Label
-label_of names values row = record { kind = row.kind; id = row.id; name = local_name (name_at names row.name); value = value_at values row.val }
+abbrev pub label_of : List Name → List ℕ → Row → Label
+label_of names values row = record { kind = row.kind; id = row.id; name = name_at names row.name; value = value_at values row.val }
 
-abbrev pub line_of : List (List ℕ) → List ℕ → Row → Line Label
+abbrev pub line_of : List Name → List ℕ → Row → Line Label
 line_of names values row = record { label = label_of names values row; dist = row.dist; size = row.size; asize = row.asize }
 
-abbrev pub lines_of : List (List ℕ) → List ℕ → List Row → List (Line Label)
+abbrev pub lines_of : List Name → List ℕ → List Row → List (Line Label)
 lines_of names values rows = map (line_of names values) rows
 
 -- each name is one of the names, and each value lies among the bytes
-abbrev pub ArePlaced : List (List ℕ) → List ℕ → List Row → Type 0
+abbrev pub ArePlaced : List Name → List ℕ → List Row → Type 0
 ArePlaced names values [] = Unit {0}
 ArePlaced names values (row ∷ rows) = (row.name < length names) × (row.val.at + row.val.len ≤ length values) × ArePlaced names values rows

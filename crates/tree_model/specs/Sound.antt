@@ -1,11 +1,11 @@
 -- What the documents of a database keep: the rules of the data model (XDM, section 6) and of names.
 use Rattle.std.specs.Prelude.{◌≡◌, ℕ, ◌<◌, ◌≤◌, ◌^◌, Bool, true, false, not, ◌&&◌, ◌||◌, ◌==◌, nat_le, List, [], ◌∷◌, ◌++◌, map, filter, length, All, count_by, nat_eq, codes, if◌then◌else◌}
 use Rattle.std.specs.List.{list_all, list_any}
-use Rattle.std.specs.Str.{bytes_eq}
+use Rattle.std.specs.Str.{bytes_eq, chars, is_utf8}
 use Rattle.std.specs.Char.{to_ascii_lowercase, is_ascii_alphanumeric}
 use Rattle.tree_model.specs.Forest.{Forest, none, tree, walk, count}
 use Rattle.tree_model.specs.Labels.{Label}
-use Rattle.tree_model.specs.Chars.{is_char, is_ncname, starts, has}
+use Rattle.tree_model.specs.XmlChars.{is_xml_char, is_xml_ncname, first_is, has_word}
 use Rattle.tree_model.specs.declared.row.Kind.{Kind}
 use Rattle.tree_model.specs.declared.row.Kind.TheVariants.{Doc, Elem, Text, Attr, Comm, Pi}
 use Rattle.tree_model.specs.declared.text.Name.{Name}
@@ -25,7 +25,7 @@ xmlns_uri = codes "http://www.w3.org/2000/xmlns/"
 -- the local part is an NCName and so is the prefix, where there is one; no uri goes with no prefix; `xml` and `xmlns` have their uris alone
 abbrev pub is_good_name : Name → Bool
 is_good_name name =
-    is_ncname name.local && (is_empty name.prefix || is_ncname name.prefix) && (not (is_empty name.uri) || is_empty name.prefix)
+    is_xml_ncname name.local && (is_empty name.prefix || is_xml_ncname name.prefix) && (not (is_empty name.uri) || is_empty name.prefix)
     && (if bytes_eq name.prefix (codes "xml") then bytes_eq name.uri xml_uri else not (bytes_eq name.uri xml_uri))
     && not (bytes_eq name.prefix (codes "xmlns")) && not (bytes_eq name.uri xmlns_uri)
 
@@ -42,8 +42,9 @@ are_distinct_names (name ∷ names) = not (list_any (is_same_name name) names) &
 abbrev pub has_no_name : Name → Bool
 has_no_name name = is_empty name.uri && is_empty name.prefix && is_empty name.local
 
+-- a text in UTF-8 whose characters are all Chars
 abbrev pub are_chars : List ℕ → Bool
-are_chars bytes = list_all is_char bytes
+are_chars bytes = is_utf8 bytes && list_all is_xml_char (chars bytes)
 
 -- an attribute without prefix is in no namespace and isn't named `xmlns`
 abbrev pub is_attr_name : Name → Bool
@@ -51,11 +52,11 @@ is_attr_name name = is_good_name name && (not (is_empty name.prefix) || (is_empt
 
 -- a target is an NCName other than `xml` in any letter case
 abbrev pub is_target : Name → Bool
-is_target name = is_empty name.uri && is_empty name.prefix && is_ncname name.local && not (bytes_eq (map to_ascii_lowercase name.local) (codes "xml"))
+is_target name = is_empty name.uri && is_empty name.prefix && is_xml_ncname name.local && not (bytes_eq (map to_ascii_lowercase name.local) (codes "xml"))
 
 -- a comment has no --, also not with the - that follows it
 abbrev pub is_comment : List ℕ → Bool
-is_comment value = not (has (codes "--") (value ++ codes "-"))
+is_comment value = not (has_word (codes "--") (value ++ codes "-"))
 
 -- name and value are those that a node of the kind may have
 abbrev pub is_good_node : Kind → Name → List ℕ → Bool
@@ -64,7 +65,7 @@ is_good_node Elem name value = is_good_name name && is_empty value
 is_good_node Text name value = has_no_name name && not (is_empty value)
 is_good_node Attr name value = is_attr_name name
 is_good_node Comm name value = has_no_name name && is_comment value
-is_good_node Pi name value = is_target name && not (has (codes "?>") value)
+is_good_node Pi name value = is_target name && not (has_word (codes "?>") value)
 
 abbrev pub is_good_label : Label → Bool
 is_good_label label = is_good_node label.kind label.name label.value && are_chars label.name.uri && are_chars label.value
@@ -163,7 +164,7 @@ is_path_char c = is_ascii_alphanumeric c || c == 95 || c == 45 || c == 46 || c =
 -- 1 to 255 letters, digits, _ - . or /, with no / at an end and no two in a row
 abbrev pub is_path : List ℕ → Bool
 is_path path =
-    not (is_empty path) && nat_le (length path) 255 && list_all is_path_char path && not (starts (λ c. c == 47) path) && not (has (codes "//") (path ++ codes "/"))
+    not (is_empty path) && nat_le (length path) 255 && list_all is_path_char path && not (first_is (λ c. c == 47) path) && not (has_word (codes "//") (path ++ codes "/"))
 
 abbrev pub top_values : Forest Label → List (List ℕ)
 top_values none = []

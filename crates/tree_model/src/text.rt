@@ -1,7 +1,14 @@
 // Texts and names.
 ghost use Rattle.std.specs.Prelude.{◌≡◌, IfOk};
+ghost use Rattle.std.specs.Cmp.{partial_equiv_from_equiv};
+ghost use Rattle.std.specs.Cmp.Lexicographic.{nat_list_eq_equiv};
+ghost use Rattle.std.specs.Cmp.Rules.{hashing};
+ghost use Rattle.std.specs.Hash as fed;
+ghost use Rattle.std.specs.Str.{bytes_eq};
+ghost use Rattle.std.proofs.Common.{rules};
 
 use std::alloc::{AllocError, Global};
+use std::hash::{Hash, Hasher};
 use std::marker::Model;
 
 /// Want of memory. Where a call answers it, all is as before unless the call says otherwise.
@@ -46,9 +53,34 @@ impl Text {
     }
 }
 
-/// An expanded name with the prefix that it was written with (Namespaces in XML 1.0). Two names are the same where `uri`
-/// and `local` are.
-#[derive(Debug, Drop)]
+/// `==` compares the bytes.
+impl PartialEq for Text {
+    ghost eq = { bytes_eq };
+
+    ghost laws = { partial_equiv_from_equiv nat_list_eq_equiv };
+
+    fn eq(&self, other: &Text) -> bool {
+        self.as_str() == other.as_str()
+    }
+}
+
+impl Eq for Text {
+    ghost laws = { nat_list_eq_equiv };
+}
+
+impl Hash for Text {
+    ghost hash_input = { fed.str };
+
+    ghost respects_eq = { Prim.search (hashing, rules) };
+
+    fn hash<H: Hasher>(&self, state: &mut H) {
+        self.as_str().hash(state);
+    }
+}
+
+/// An expanded name with the prefix that it was written with (Namespaces in XML 1.0). `==` compares all three parts. As
+/// expanded names two are the same where `uri` and `local` are, whatever their prefixes.
+#[derive(Debug, Drop, PartialEq, Eq, Hash)]
 pub struct Name {
     pub uri: Text,
     pub prefix: Text,

@@ -1,6 +1,7 @@
 // Reads a script of commands from standard input, and writes the replies to standard output.
 #![tactic(auto)]
 
+mod files;
 mod streams;
 mod words;
 

@@ -1,6 +1,6 @@
 use Rattle.std.proofs.Common.{rules}
 use Rattle.doc_import.proofs.Answering.{fault_answer, not_whole_answer, too_many_answer, built_answer}
-use Rattle.doc_import.proofs.Rowing.{lines_length}
+use Rattle.tree_model.proofs.Tables.{lines_length}
 use Rattle.doc_import.proofs.reading.import.Goals as goal
 
 pub returns-in-Err : goal.returns-in-Err
@@ -12,6 +12,5 @@ returns-then-not-is_whole c = not_whole_answer _ _ _ _ (search rules) c.in-Ok.en
 pub returns-then-len-gt-MAX_ROWS : goal.returns-then-len-gt-MAX_ROWS
 returns-then-len-gt-MAX_ROWS c = too_many_answer _ _ _ _ (search rules) c.in-Ok.ensures.led (c.is_whole.ensures.yes (search rules)) (search (rules, lines_length))
 
-pub returns-in-Ok-built : goal.returns-in-Ok-built
-returns-in-Ok-built c =
-    built_answer _ _ _ _ _ (search rules) c.in-Ok.ensures.led (c.is_whole.ensures.yes (search rules)) c.in-Ok-built.ensures.lines (search (rules, lines_length)) c.in-Ok-built.ensures.placed
+pub returns : goal.returns
+returns c = built_answer _ _ _ _ _ (search rules) c.in-Ok.ensures.led (c.is_whole.ensures.yes (search rules)) c.built.ensures.lines (search (rules, lines_length)) c.built.ensures.placed

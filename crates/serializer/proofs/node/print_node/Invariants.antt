@@ -11,8 +11,8 @@ use Rattle.serializer.proofs.node.print_node.Given as goal
 
 abbrev pub invariant-loop-at : goal.invariant-loop-at
 invariant-loop-at l = record {
-  ahead : (node : Node Label) → Contains (nodes (grove_of (lines_of l.names l.values l.rows))) node → node.place ≡ l.pre
-      → Ahead (lines_of l.names l.values l.rows) l.top l.at l.out.items (l.fn.out.items ++ node_text node);
+  ahead : (node : Node Label) → Contains (nodes (grove_of (lines_of l.names l.heap l.rows))) node → node.place ≡ l.pre
+      → Ahead (lines_of l.names l.heap l.rows) l.top l.at l.out.items (l.fn.out.items ++ node_text node);
   kept : Grew l.fn.out.items l.out.items;
 }
 

@@ -9,8 +9,8 @@ use Rattle.serializer.proofs.storage.print_storage.Given as goal
 abbrev pub invariant-loop-row : goal.invariant-loop-row
 invariant-loop-row l = record {
   count : l.pre ≡ l.first + l.row-index;
-  placed : ArePlaced l.names l.values (drop l.row-index l.row-items);
+  placed : ArePlaced l.names l.heap (drop l.row-index l.row-items);
   kept : Grew l.fn.out.items l.out.items;
-  text : l.out.items ++ text_ahead l.row-index l.pre (lines_of l.names l.values (drop l.row-index l.row-items))
-      ≡ l.fn.out.items ++ join_with_byte 10 (row_texts l.first (lines_of l.names l.values l.row-items));
+  text : l.out.items ++ text_ahead l.row-index l.pre (lines_of l.names l.heap (drop l.row-index l.row-items))
+      ≡ l.fn.out.items ++ join_with_byte 10 (row_texts l.first (lines_of l.names l.heap l.row-items));
 }

@@ -7,8 +7,8 @@ use Rattle.serializer.proofs.node.Table.push_attributes.Given as goal
 
 abbrev pub invariant-loop-row : goal.invariant-loop-row
 invariant-loop-row l = record {
-  placed : ArePlaced l.self.names.now l.self.values.now (drop l.row-index l.attrs);
-  text : l.out.items ++ flat_map (λ attr. 32 ∷ attr_text attr) (map (label_of l.self.names.now l.self.values.now) (drop l.row-index l.attrs))
-      ≡ l.fn.out.items ++ flat_map (λ attr. 32 ∷ attr_text attr) (map (label_of l.self.names.now l.self.values.now) l.attrs);
+  placed : ArePlaced l.self.names.now l.self.heap.now (drop l.row-index l.attrs);
+  text : l.out.items ++ flat_map (λ attr. 32 ∷ attr_text attr) (map (label_of l.self.names.now l.self.heap.now) (drop l.row-index l.attrs))
+      ≡ l.fn.out.items ++ flat_map (λ attr. 32 ∷ attr_text attr) (map (label_of l.self.names.now l.self.heap.now) l.attrs);
   kept : Grew l.fn.out.items l.out.items;
 }

@@ -6,8 +6,8 @@ use Rattle.serializer.proofs.node.Table.push_ends.Given as goal
 
 abbrev pub invariant-loop-inner : goal.invariant-loop-inner
 invariant-loop-inner l = record {
-  ended : (whole : List ℕ) → Ended (lines_of l.self.names.now l.self.values.now l.self.rows.now) l.top l.last l.end l.fn.out.items whole
-      → Ended (lines_of l.self.names.now l.self.values.now l.self.rows.now) l.top l.inner l.end l.out.items whole;
+  ended : (whole : List ℕ) → Ended (lines_of l.self.names.now l.self.heap.now l.self.rows.now) l.top l.last l.end l.fn.out.items whole
+      → Ended (lines_of l.self.names.now l.self.heap.now l.self.rows.now) l.top l.inner l.end l.out.items whole;
   kept : Grew l.fn.out.items l.out.items;
 }
 

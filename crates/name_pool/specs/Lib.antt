@@ -1,0 +1,2 @@
+-- Names by number.
+pub mod Names

@@ -1,0 +1,15 @@
+pub mod Spans
+pub mod Readers
+pub mod ByteClasses
+pub mod Naming
+pub mod Finding
+pub mod Blocks
+pub mod Numbers
+pub mod PrologDecl
+pub mod PrologDoctype
+pub mod PrologPieces
+pub mod PrologEncoding
+pub mod DoctypeText
+pub mod Exact
+pub mod Lexing
+pub mod CharsAll

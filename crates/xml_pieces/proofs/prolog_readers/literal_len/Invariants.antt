@@ -1,0 +1,14 @@
+use Rattle.std.proofs.Common.{◌≡◌, ◌+◌, ◌-◌, ◌≤◌, length, drop}
+use Rattle.std.specs.List.{prefix_len}
+use Rattle.xml_pieces.specs.Prolog.{in_literal}
+use Rattle.xml_pieces.specs.PrologView.{literal_test}
+use Rattle.xml_pieces.proofs.prolog_readers.literal_len.Given as goal
+
+abbrev pub invariant-loop-len : goal.invariant-loop-len
+invariant-loop-len l = record {
+  within : l.len ≤ length l.bytes;
+  sofar : l.len + prefix_len (in_literal (literal_test l.kind) l.delim) (drop l.len l.bytes) ≡ prefix_len (in_literal (literal_test l.kind) l.delim) l.bytes;
+}
+
+abbrev pub decreases-loop-len : goal.decreases-loop-len
+decreases-loop-len l = length l.bytes - l.len

@@ -1,0 +1,36 @@
+-- What an import gives.
+use Rattle.std.specs.Prelude.{ℕ, Bool, List, Result, Ok, Err, ⊤}
+use Rattle.tree_model.specs.Forest.{Forest, Line, grove_of, IsFlat}
+use Rattle.tree_model.specs.Labels.{Label}
+use Rattle.tree_model.specs.Rows.{lines_of, ArePlaced}
+use Rattle.tree_model.specs.XmlMeaning.{unknown_entity, bad_namespace}
+use Rattle.tree_model.specs.XmlReads.{ReadsXml, as_tree, too_many_bytes, not_utf8, other_encoding, internal_subset, not_well_formed, first_fault, too_many_nodes}
+use Rattle.xml_reading.specs.declared.whole_text.Built.{Built}
+use Rattle.xml_reading.specs.declared.fault.ImportFault.{ImportFault}
+use Rattle.xml_reading.specs.declared.fault.ImportFault.TheVariants.{TooLong, NotUtf8, Encoding, InternalSubset, Malformed, UnknownEntity, Namespace, TooManyRows, NoMemory}
+
+-- what the rows say, with their names and values
+abbrev pub built_lines : Built → List (Line Label)
+built_lines built = lines_of built.names built.heap built.rows.items
+
+-- the one forest that they stand for
+abbrev pub built_forest : Built → Forest Label
+built_forest built = grove_of (built_lines built)
+
+-- the rows are those of the forest, and each has a name and a value of its own
+pub record IsBuilt (built : Built) : Type 0 where
+  pub flat : IsFlat (built_lines built)
+  pub placed : ArePlaced built.names built.heap built.rows.items
+
+-- the tree that is read, or the first fault; want of memory may be answered to any text
+abbrev pub IsImport : List ℕ → Bool → Result Built ImportFault → Type 0
+IsImport text strip (Ok built) = IsBuilt built × ReadsXml text strip (as_tree (built_forest built))
+IsImport text strip (Err TooLong) = ReadsXml text strip too_many_bytes
+IsImport text strip (Err (NotUtf8 at)) = ReadsXml text strip (not_utf8 at)
+IsImport text strip (Err (Encoding at)) = ReadsXml text strip (other_encoding at)
+IsImport text strip (Err (InternalSubset at)) = ReadsXml text strip (internal_subset at)
+IsImport text strip (Err Malformed) = ReadsXml text strip not_well_formed
+IsImport text strip (Err (UnknownEntity at)) = ReadsXml text strip (first_fault (unknown_entity at))
+IsImport text strip (Err (Namespace at)) = ReadsXml text strip (first_fault (bad_namespace at))
+IsImport text strip (Err TooManyRows) = ReadsXml text strip too_many_nodes
+IsImport text strip (Err NoMemory) = ⊤

@@ -1,0 +1,26 @@
+-- The proofs of the rows that an XML text makes.
+pub mod WorkingTrees
+pub mod WorkingTags
+pub mod WorkingContent
+pub mod Working
+pub mod Counting
+pub mod Opened
+pub mod Lines
+pub mod Digits
+pub mod Rowing
+pub mod Finding
+pub mod Splitting
+pub mod Growing
+pub mod Knowing
+pub mod Nesting
+pub mod Declaring
+pub mod Scoped
+pub mod Twice
+pub mod Keyed
+pub mod Resolving
+pub mod Attributing
+pub mod Valued
+pub mod Tagged
+pub mod Parted
+pub mod Quoted
+pub mod Fits

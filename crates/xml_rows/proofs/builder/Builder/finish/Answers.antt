@@ -1,0 +1,12 @@
+use Rattle.std.proofs.Common.{◌≡◌, sym, ap, ◌∙◌, subst, rules}
+use Rattle.tree_model.specs.Rows.{ArePlaced}
+use Rattle.tree_model.specs.declared.row.Row.{Row}
+use Rattle.xml_rows.specs.declared.parts.Parts.{Parts}
+use Rattle.xml_rows.proofs.builder.Builder.finish.Goals as goal
+
+pub returns-clause-placed : goal.returns-clause-placed
+returns-clause-placed c =
+    let heap : c.into_heap.result ≡ c.self.inside.parts.value.values.settled = search rules in
+    let names : c.into_pool.result ≡ c.self.inside.parts.value.elements.names.names = search rules in
+    let rows = ap (λ (p : Parts). p.elements.rows.rows) c.into_inner-elements.ensures in
+    c.into_rows.ensures.placed c.into_pool.result c.into_heap.result (rw (names, heap, rows) c.self.invariant.placed)

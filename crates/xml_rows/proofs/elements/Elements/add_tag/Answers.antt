@@ -1,0 +1,36 @@
+use Rattle.std.proofs.Common.{rules, arith, ◌≡◌, ◌+◌, ◌++◌, ◌∷◌, [], length, sym, ap, ◌∙◌, subst, List}
+use Rattle.std.proofs.lemmas.List.{length-map}
+use Rattle.tree_model.specs.Rows.{lines_of, ArePlaced}
+use Rattle.tree_model.specs.XmlMeaning.{Scope, with_attrs, plain_attrs, attr_label, attr_labels}
+use Rattle.tree_model.specs.declared.text.Name.{Name}
+use Rattle.tree_model.proofs.Tables.{lines_length}
+use Rattle.xml_rows.specs.Numbers.{Begins}
+use Rattle.xml_rows.specs.Scoping.{scope_in}
+use Rattle.xml_rows.specs.Tagging.{pairs_of, expanded_all, all_expanded}
+use Rattle.xml_rows.specs.Work.{with_tag}
+use Rattle.xml_rows.proofs.Tagged.{pairs_named, pairs_within, plain_few, tag_bad_by, tag_lines_by}
+use Rattle.xml_rows.proofs.elements.Elements.add_tag.Goals as goal
+
+pub add_element-requires-clause-few : goal.add_element-requires-clause-few
+add_element-requires-clause-few c = omega (arith, c.requires.few, c.in_ok-declared.ensures.plain, plain_few c.args.values.now.settled c.args.pairs.now)
+
+pub add_attributes-requires-clause-named : goal.add_attributes-requires-clause-named
+add_attributes-requires-clause-named c = pairs_named _ _ c.requires.pairs
+
+pub returns-clause-bad : goal.returns-clause-bad
+returns-clause-bad c =
+    tag_bad_by c.declare.new.names.uris c.add_element.new.names.uris c.add_attributes.new.names.uris c.declare.new.scopes.scope _ c.args.name.now (pairs_of c.args.values.now.settled c.args.pairs.now) c.clear.new.self.items
+    c.add_attributes.new.found.items c.deref.result.now c.in_ok-declared.declared.is_bad c.in_ok-no_element.no_element c.in_ok-unbound.unbound c.in_ok-twice.twice
+    (c.in_ok-declared.ensures.scope ∙ ap (λ s. with_attrs (pairs_of c.args.values.now.settled c.args.pairs.now) (scope_in c.args.self.now.names.uris s)) c.in_ok-enter.ensures.scope) c.in_ok-no_element.ensures.uris_kept c.in_ok-unbound.ensures.uris_kept c.in_ok-declared.ensures.bad c.in_ok-no_element.ensures.unbound (c.in_ok-unbound.ensures.unbound c.args.values.now.settled) c.in_ok-twice.ensures
+    c.deref.ensures.value c.clear.ensures.items (c.in_ok-unbound.ensures.found_more c.args.values.now.settled)
+
+pub returns-clause-lines : goal.returns-clause-lines
+returns-clause-lines c = λ placed.
+    tag_lines_by c.args.self.now.names.names c.declare.new.names.names c.add_element.new.names.names c.add_attributes.new.names.names c.declare.new.names.uris c.add_element.new.names.uris c.declare.new.scopes.scope _ c.args.values.now.settled
+    c.args.self.now.rows.rows c.add_element.new.rows.rows c.add_attributes.new.rows.rows c.args.self.now.rows.open_at c.args.name.now c.args.pairs.now c.in_ok-declared.declared.plain c.len-place.result
+    (c.in_ok-declared.ensures.scope ∙ ap (λ s. with_attrs (pairs_of c.args.values.now.settled c.args.pairs.now) (scope_in c.args.self.now.names.uris s)) c.in_ok-enter.ensures.scope) c.in_ok-no_element.ensures.uris_kept c.in_ok-declared.ensures.names c.len-place.ensures.len c.in_ok-no_element.ensures.len c.in_ok-declared.ensures.plain
+    (c.in_ok-no_element.ensures.lines c.args.values.now.settled (rw c.in_ok-declared.ensures.names placed))
+    (c.in_ok-unbound.ensures.lines c.args.values.now.settled (c.in_ok-no_element.ensures.placed c.args.values.now.settled (rw c.in_ok-declared.ensures.names placed)) (pairs_within _ _ c.requires.pairs))
+
+pub returns-clause-placed : goal.returns-clause-placed
+returns-clause-placed c = λ placed. c.in_ok-unbound.ensures.placed c.args.values.now.settled (c.in_ok-no_element.ensures.placed c.args.values.now.settled (rw c.in_ok-declared.ensures.names placed)) (pairs_within _ _ c.requires.pairs)
