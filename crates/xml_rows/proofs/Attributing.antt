@@ -1,5 +1,5 @@
 -- The rows of a tag's attributes, one after the other.
-use Rattle.std.proofs.Common.{◌≡◌, ℕ, suc, ◌+◌, ◌-◌, ◌<◌, ◌≤◌, Bool, true, false, List, [], ◌∷◌, ◌++◌, length, map, Some, None, ◌||◌, refl, sym, ap, ◌∙◌, subst, arith, append_assoc, append-nil}
+use Rattle.std.proofs.Common.{◌≡◌, ℕ, suc, ◌+◌, ◌-◌, ◌<◌, ◌≤◌, Bool, true, false, List, [], ◌∷◌, ◌++◌, length, map, ◌||◌, refl, sym, ap, ◌∙◌, subst, arith, append_assoc, append-nil}
 use Rattle.std.specs.List.{list_any}
 use Rattle.std.specs.Option.{is_none}
 use Rattle.std.proofs.Math.Bool.{or_assoc, or-false}
@@ -28,16 +28,6 @@ pub record IsAlong (inside : Scope) (uris : List (List ℕ)) (place : ℕ) (pair
       → lines_of names values rows ++ lines_left inside values place (length rows) rest ≡ lines_of names0 values rows0 ++ lines_left inside values place (length rows0) pairs
   pub bad : (values : List ℕ) → (unbound || has_unbound inside (pairs_of values rest)) ≡ has_unbound inside (pairs_of values pairs)
   pub expands : (values : List ℕ) → all_expanded uris found ++ expanded_all inside (plain_attrs (pairs_of values rest)) ≡ all_expanded uris found0 ++ expanded_all inside (plain_attrs (pairs_of values pairs))
-
-pub along_first : (inside : Scope) (uris : List (List ℕ)) (place : ℕ) (pairs : List code.Pair) (names : List Name) (rows : List Row) (found : List Expanded) → AreNamed pairs → IsAlong inside uris place pairs pairs names names rows rows false found found
-along_first inside uris place pairs names rows found named = record {
-  named = named;
-  within = λ values within. within;
-  placed = λ values placed within. placed;
-  lines = λ values placed within. refl;
-  bad = λ values. refl;
-  expands = λ values. refl;
-}
 
 -- an attribute that is a declaration
 pub along_declared : (inside : Scope) (uris : List (List ℕ)) (place : ℕ) (pairs rest tail : List code.Pair) (pair : code.Pair) (names0 names : List Name) (rows0 rows : List Row) (unbound : Bool) (found0 found : List Expanded)

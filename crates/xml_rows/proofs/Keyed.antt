@@ -1,5 +1,5 @@
 -- Expanded names as the keys of a set.
-use Rattle.std.proofs.Common.{◌≡◌, ℕ, ◌+◌, ◌<◌, ◌≤◌, Bool, true, false, List, [], ◌∷◌, ◌++◌, length, map, reverse, take, drop, get_or, ◌||◌, ◌&&◌, ◌==◌, not, refl, sym, ap, ◌∙◌, subst, arith}
+use Rattle.std.proofs.Common.{◌≡◌, ℕ, ◌+◌, ◌<◌, ◌≤◌, Bool, true, false, List, [], ◌∷◌, ◌++◌, length, map, reverse, take, drop, get_or, ◌||◌, ◌&&◌, ◌==◌, not, refl, sym, ap, ◌∙◌, subst}
 use Rattle.std.specs.Prelude.{if◌then◌else◌}
 use Rattle.std.specs.List.{list_any}
 use Rattle.std.specs.Str.{bytes_eq}
@@ -32,9 +32,6 @@ pub record IsSeen (uris : List (List ℕ)) (found : List Expanded) (keys : List 
   pub in_use : AreKeys (length uris) keys
   pub sofar : has_twice (reverse (all_expanded uris (take i found))) (all_expanded uris (drop i found)) ≡ whole
 
-pub seen_none : (uris : List (List ℕ)) (found : List Expanded) (keys : List Key) → keys ≡ [] → IsSeen uris found keys 0 (has_twice [] (all_expanded uris found))
-seen_none uris found keys is = subst (λ l. IsSeen uris found l 0 (has_twice [] (all_expanded uris found))) (sym is) (record { pairs = refl; in_use = tt; sofar = refl })
-
 here_is : (uris : List (List ℕ)) (found : List Expanded) (keys : List Key) (i : ℕ) (whole : Bool) (key : Key) (d : Expanded) → Distinct uris → key.0 < length uris → key_of uris key ≡ expanded_of uris (get_or found i d) → IsSeen uris found keys i whole
     → is_pair_in (expanded_of uris (get_or found i d)) (all_expanded uris (take i found)) ≡ list_any (is_same_key key) keys
 here_is uris found keys i whole key d distinct lt is seen =
@@ -63,7 +60,3 @@ seen_more uris found keys more i whole key d distinct within lt is seen new more
     by : (b : Bool) → true ≡ not b → b ≡ false
     by true e = absurd (false≢true (sym e))
     by false e = refl
-
--- all were looked at
-pub seen_all : (uris : List (List ℕ)) (found : List Expanded) (keys : List Key) (i : ℕ) (whole : Bool) → length found ≤ i → IsSeen uris found keys i whole → false ≡ whole
-seen_all uris found keys i whole le seen = sym (ap (λ l. has_twice (reverse (all_expanded uris (take i found))) (all_expanded uris l)) (drop_all i found le)) ∙ seen.sofar

@@ -7,13 +7,13 @@ use Rattle.std.proofs.lemmas.Bool.Decides.{Decides-eqb}
 use Rattle.std.proofs.lemmas.Slice.Eq.{bytes_eq-Decides}
 use Rattle.tree_model.specs.Labels.{local_name}
 use Rattle.tree_model.specs.Rows.{name_at}
-use Rattle.tree_model.specs.XmlChars.{is_name_run, is_xml_ncname, is_xml_qname, has_colon, before_colon, behind_colon, prefix_of, local_of}
+use Rattle.tree_model.specs.XmlChars.{is_name_run, is_xml_ncname, is_xml_qname, has_colon, before_colon, prefix_of, local_of}
 use Rattle.tree_model.specs.declared.text.Name.{Name}
 use Rattle.tree_model.proofs.XmlUtf8.{text_ncname, text_nil}
 use Rattle.xml_rows.specs.Known.{Key, is_same_key, AreKnown, AreNumbered}
 use Rattle.xml_rows.specs.Numbers.{Begins, uri_at, name_in, IsNumber}
 use Rattle.xml_rows.specs.Words.{Bytes}
-use Rattle.xml_rows.proofs.Growing.{begins_length, begins_at, begins_self}
+use Rattle.xml_rows.proofs.Growing.{begins_length, begins_at}
 
 some_weaker : (o : Option ℕ) (P Q : ℕ → Type 0) → ((n : ℕ) → P n → Q n) → IfSome o P → IfSome o Q
 some_weaker None P Q f h = tt
@@ -67,18 +67,6 @@ known_at names uris look uri n written known is = subst (λ o. IfSome o (IsNumbe
 
 pub name_by : (u written uri prefix local : List ℕ) (name : Name) → name ≡ record { uri = uri; prefix = prefix; local = local } → uri ≡ u → prefix ≡ prefix_of written → local ≡ local_of written → name ≡ name_in u written
 name_by u written uri prefix local name is uri_is prefix_is local_is = cc
-
--- ---- at first
-
-pub numbered_first : (names : List Name) (uris : List (List ℕ)) (look : Key → Option ℕ) (unnamed no_uri : ℕ) → ((q : Key) → look q ≡ None) → unnamed < length names → name_at names unnamed ≡ local_name [] → no_uri < length uris → uri_at uris no_uri ≡ []
-    → AreNumbered names uris look unnamed no_uri
-numbered_first names uris look unnamed no_uri none some_name name some_uri uri = record {
-  known = λ u written. subst (λ o. IfSome o (IsNumber names uris u written.now)) (sym (none (u, written))) tt;
-  unnamed_in_use = some_name;
-  unnamed_name = name;
-  no_uri_in_use = some_uri;
-  no_uri_text = uri;
-}
 
 -- ---- the parts of a name are texts
 

@@ -1,7 +1,6 @@
 -- Line ends and white space of a value, front by front.
-use Rattle.std.proofs.Common.{◌≡◌, ℕ, suc, ◌+◌, ◌<◌, ◌≤◌, Bool, true, false, List, [], ◌∷◌, ◌++◌, map, length, take, drop, not, cond, eqb, ◌==◌, ◌||◌, refl, sym, ap, ◌∙◌, append_assoc, append-nil, arith, one-add}
+use Rattle.std.proofs.Common.{◌≡◌, ℕ, ◌<◌, Bool, true, false, List, [], ◌∷◌, ◌++◌, map, length, take, drop, ◌==◌, refl, sym, ap, ◌∙◌, append_assoc, append-nil, arith, one-add}
 use Rattle.std.specs.List.{prefix_len}
-use Rattle.std.specs.Prelude.{if◌then◌else◌}
 use Rattle.std.proofs.lemmas.Bool.Decides.{nat_tests}
 use Rattle.tree_model.specs.XmlMeaning.{line_ends_from, line_ends, value_byte, spaced}
 use Rattle.xml_rows.specs.Values.{behind_feed, behind_break, is_line_byte, is_value_byte}

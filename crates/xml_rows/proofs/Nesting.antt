@@ -1,14 +1,9 @@
 -- The scopes of the code, as prefixes are bound and elements end.
-use Rattle.std.proofs.Common.{◌≡◌, ℕ, zero, suc, ◌+◌, ◌-◌, ◌<◌, ◌≤◌, Bool, true, false, List, [], ◌∷◌, ◌++◌, length, map, reverse, take, get_or, Option, Some, None, refl, sym, ap, ◌∙◌, subst, arith, length-append}
-use Rattle.std.specs.Prelude.{if◌then◌else◌}
-use Rattle.std.specs.Str.{bytes_eq}
-use Rattle.std.proofs.lemmas.List.{reverse-append, take-take, take_at, take_all, take_more, length-take}
-use Rattle.xml_rows.specs.Leaving.{inner_of, outer_less}
-use Rattle.xml_rows.specs.Scoping.{Numbering, Scoped, number_of, numbering_of, scope_of, outer_of, AreNested}
+use Rattle.std.proofs.Common.{◌≡◌, ℕ, ◌≤◌, List, [], ◌∷◌, ◌++◌, length, map, reverse, take, refl, sym, ap, ◌∙◌, subst, arith, length-append}
+use Rattle.std.proofs.lemmas.List.{reverse-append, take-take, take_at, take_all}
+use Rattle.xml_rows.specs.Leaving.{outer_less}
+use Rattle.xml_rows.specs.Scoping.{numbering_of, scope_of, outer_of, AreNested}
 use Rattle.xml_rows.specs.declared.scope.Bound.{Bound}
-
-pub scope_push : (bounds : List Bound) (bound : Bound) → scope_of (bounds ++ bound ∷ []) ≡ numbering_of bound ∷ scope_of bounds
-scope_push bounds bound = ap (map numbering_of) (reverse-append bounds (bound ∷ []))
 
 pub nested_more : (len more : ℕ) (lens : List ℕ) → len ≤ more → AreNested len lens → AreNested more lens
 nested_more len more [] le nested = tt

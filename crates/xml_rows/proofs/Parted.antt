@@ -1,5 +1,5 @@
 -- The work of the parts, and what the parts keep.
-use Rattle.std.proofs.Common.{◌≡◌, ℕ, ◌+◌, ◌<◌, ◌≤◌, Bool, true, false, List, [], ◌∷◌, ◌++◌, length, Option, Some, None, refl, sym, ap, ◌∙◌, subst, arith, length-append}
+use Rattle.std.proofs.Common.{◌≡◌, ℕ, ◌+◌, ◌≤◌, Bool, true, false, List, [], ◌∷◌, length, Option, Some, None, refl, sym, ap, ◌∙◌, subst, arith}
 use Rattle.tree_model.specs.Forest.{Line}
 use Rattle.tree_model.specs.Labels.{Label, local_name}
 use Rattle.tree_model.specs.Rows.{name_at, lines_of, ArePlaced}
@@ -39,17 +39,6 @@ or_none (Some fault) = refl
 
 -- ---- counts
 
-tag_later : (n m rows : ℕ) (values : Gathered) (tag : Tag) → n ≤ m → IsTag n rows values tag → IsTag m rows values tag
-tag_later n m rows values tag le is = record { named = is.named; pairs = is.pairs; few = omega (arith, is.few, le) }
-
-ready_later : (n m rows : ℕ) (values : Gathered) (tag : Tag) (doing : code.Doing) → n ≤ m → IsReady n rows values tag doing → IsReady m rows values tag doing
-ready_later n m rows values tag Content le is = omega (arith, is, le)
-ready_later n m rows values tag InTag le is = (tag_later n m rows values tag le is.0, is.1)
-ready_later n m rows values tag InValue le is = (tag_later n m (rows + 1) values tag le is.0, is.1, is.2)
-
-pub tidy_later : (n m : ℕ) (p : Parts) → n ≤ m → IsTidy n p → IsTidy m p
-tidy_later n m p le is = record { placed = is.placed; uris = is.uris; outer = is.outer; ready = ready_later (1 + n) (1 + m) (length p.elements.rows.rows) p.values p.tag p.doing (omega (arith, le)) is.ready }
-
 pub count_one : (text : List ℕ) → pending_count text ≤ 1
 count_one [] = omega arith
 count_one (c ∷ text) = omega arith
@@ -78,14 +67,6 @@ entity_first at name = by (entity_char name)
     by (Some c) = refl
 
 -- ---- an element ends
-
-pub scope_left : (uris : List (List ℕ)) (scope : List Numbering) (outer : List (List Numbering)) → scope_in uris (inner_of scope outer) ≡ outer_scope (scope_in uris scope) (scopes_in uris outer)
-scope_left uris scope [] = refl
-scope_left uris scope (outside ∷ outer) = refl
-
-pub outer_left : (uris : List (List ℕ)) (outer : List (List Numbering)) → scopes_in uris (outer_less outer) ≡ less (scopes_in uris outer)
-outer_left uris [] = refl
-outer_left uris (outside ∷ outer) = refl
 
 pub uris_left : (count : ℕ) (scope : List Numbering) (outer : List (List Numbering)) → AreUris count scope → EachAreUris count outer → AreUris count (inner_of scope outer)
 uris_left count scope [] are each = are
@@ -126,9 +107,6 @@ hexadecimal_work strip w digits code is =
 
 pub tag_ready : (count rows : ℕ) (values : Gathered) (tag : Tag) (doing : code.Doing) → doing ≡ InTag → IsReady count rows values tag doing → IsTag count rows values tag × (values.pending ≡ [])
 tag_ready count rows values tag doing is ready = subst (λ d. IsReady count rows values tag d) is ready
-
-pub ready_tag : (count rows : ℕ) (values : Gathered) (tag : Tag) (doing : code.Doing) → doing ≡ InTag → IsTag count rows values tag → values.pending ≡ [] → IsReady count rows values tag doing
-ready_tag count rows values tag doing is kept none = subst (λ d. IsReady count rows values tag d) (sym is) (kept, none)
 
 pub tag_first : (bad : Bool) (inside : Scope) (at : ℕ) (name : List ℕ) (pairs : List Pair) → bad ≡ is_bad_tag inside name pairs → first_of (tag_faults inside at name pairs) ≡ (if bad then Some (bad_namespace at) else None)
 unfolding tag_faults

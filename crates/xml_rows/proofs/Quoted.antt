@@ -1,9 +1,8 @@
 -- The value of an attribute, while it is gathered and where it is whole.
-use Rattle.std.proofs.Common.{◌≡◌, ℕ, ◌+◌, ◌<◌, ◌≤◌, Bool, true, List, [], ◌∷◌, ◌++◌, length, Option, Some, None, refl, sym, ap, ◌∙◌, subst, arith, length-append}
+use Rattle.std.proofs.Common.{◌≡◌, ℕ, ◌+◌, ◌≤◌, true, List, [], ◌∷◌, ◌++◌, length, Option, refl, sym, ap, ◌∙◌, subst, arith, length-append}
 use Rattle.std.specs.Char.{encode_utf8}
 use Rattle.std.specs.Str.{IsUtf8}
 use Rattle.std.proofs.lemmas.List.{map_push}
-use Rattle.tree_model.specs.Rows.{value_at, lines_of, ArePlaced}
 use Rattle.tree_model.specs.XmlChars.{is_xml_qname}
 use Rattle.tree_model.specs.XmlGood.{number_from}
 use Rattle.tree_model.specs.XmlMeaning as meaning
@@ -19,7 +18,7 @@ use Rattle.xml_rows.specs.Work as work
 use Rattle.xml_rows.specs.Work.{Work, or_first, first_of, works_at, in_value}
 use Rattle.xml_rows.specs.declared.parts.Doing as state
 use Rattle.xml_rows.specs.declared.parts.Fault as code
-use Rattle.xml_rows.specs.declared.parts.Doing.TheVariants.{InTag, InValue}
+use Rattle.xml_rows.specs.declared.parts.Doing.TheVariants.{InValue}
 use Rattle.xml_rows.specs.declared.parts.Tag.{Tag}
 use Rattle.xml_rows.specs.declared.tag.Pair.{Pair}
 use Rattle.xml_rows.proofs.Parted.{or_none}

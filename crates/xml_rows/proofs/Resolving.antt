@@ -1,11 +1,8 @@
 -- Names with the URIs of their prefixes, and the rows of a tag.
-use Rattle.std.proofs.Common.{◌≡◌, ℕ, ◌+◌, ◌-◌, ◌<◌, ◌≤◌, Bool, true, false, List, [], ◌∷◌, ◌++◌, length, Option, Some, None, refl, sym, ap, ◌∙◌, subst, arith}
+use Rattle.std.proofs.Common.{◌≡◌, ℕ, ◌-◌, ◌<◌, List, [], ◌∷◌, ◌++◌, length, Option, Some, None, sym, ap, ◌∙◌, subst}
 use Rattle.std.specs.Option.{option_map, unwrap_or, IfSome}
-use Rattle.tree_model.specs.Forest.{Line}
-use Rattle.tree_model.specs.Labels.{Label}
 use Rattle.tree_model.specs.Rows.{name_at, lines_of, ArePlaced}
-use Rattle.tree_model.specs.XmlMeaning.{Scope, or_empty, attr_uri, element_uri, attr_name, element_name, attr_label, tag_label}
-use Rattle.tree_model.specs.declared.row.Kind.{Kind}
+use Rattle.tree_model.specs.XmlMeaning.{Scope, or_empty, attr_uri, element_uri, attr_label, tag_label}
 use Rattle.tree_model.specs.declared.row.Kind.TheVariants.{Attr, Elem}
 use Rattle.tree_model.specs.declared.row.Row.{Row}
 use Rattle.tree_model.specs.declared.text.Name.{Name}

@@ -1,16 +1,11 @@
 -- The rows of the code, as names and values are added.
-use Rattle.std.proofs.Common.{◌≡◌, ℕ, zero, suc, ◌+◌, ◌-◌, ◌<◌, ◌≤◌, List, [], ◌∷◌, ◌++◌, length, reverse, take, drop, map, set, get_or, refl, sym, ap, ◌∙◌, subst, arith, length-append, length-drop, append-nil}
-use Rattle.std.specs.Prelude.{slice_range}
-use Rattle.std.proofs.lemmas.List.{take-append-le, drop-append-le, map-append, take_all, length-map, reverse-append}
-use Rattle.std.proofs.Math.Seq.{drop-append_seam}
-use Rattle.tree_model.specs.Forest.{Line}
-use Rattle.tree_model.specs.Labels.{Label, local_name}
-use Rattle.tree_model.specs.Rows.{name_at, value_at, line_of, lines_of, ArePlaced}
+use Rattle.std.proofs.Common.{◌≡◌, ℕ, zero, suc, ◌+◌, ◌-◌, ◌<◌, ◌≤◌, List, [], ◌∷◌, ◌++◌, length, reverse, set, get_or, sym, ap, ◌∙◌, subst, arith}
+use Rattle.std.proofs.lemmas.List.{reverse-append}
+use Rattle.tree_model.specs.Rows.{line_of, lines_of, ArePlaced}
 use Rattle.tree_model.specs.declared.row.Row.{Row}
-use Rattle.tree_model.specs.declared.row.ValueRef.{ValueRef}
 use Rattle.tree_model.specs.declared.text.Name.{Name}
 use Rattle.tree_model.proofs.Tables.{placed_sized, lines_length}
-use Rattle.xml_rows.specs.Work.{top, leaf, with_leaf, sized, ended, less}
+use Rattle.xml_rows.specs.Work.{sized, ended, less}
 
 -- ---- a row at the end
 
@@ -33,9 +28,6 @@ ended_by names values rows opened more place row is lt at =
     sized_is names values rows place (length rows - place) row at lt
     ∙ ap (λ n. sized (n - place) place (lines_of names values rows)) (sym (lines_length names values rows))
     ∙ ap (λ l. ended l (lines_of names values rows)) (sym (ap reverse is ∙ reverse-append more (place ∷ [])))
-
-pub less_by : (opened more : List ℕ) (place : ℕ) → opened ≡ more ++ place ∷ [] → reverse more ≡ less (reverse opened)
-less_by opened more place is = sym (ap (λ l. less (reverse l)) is ∙ ap less (reverse-append more (place ∷ [])))
 
 -- ---- the same at the fields of the code
 

@@ -1,8 +1,7 @@
 -- The colon of a name.
-use Rattle.std.proofs.Common.{◌≡◌, ℕ, ◌+◌, ◌<◌, ◌≤◌, Bool, true, false, List, [], ◌∷◌, length, take, drop, not, Some, None, refl, sym, ap, ◌∙◌, arith, ◌==◌, one-add}
-use Rattle.std.specs.List.{prefix_len, list_any}
-use Rattle.std.proofs.lemmas.Bool.{false≢true}
-use Rattle.tree_model.specs.XmlChars.{is_no_colon, has_colon, before_colon, behind_colon}
+use Rattle.std.proofs.Common.{◌≡◌, ℕ, ◌<◌, Bool, true, false, List, [], ◌∷◌, length, take, drop, Some, None, refl, sym, ap, ◌∙◌, arith, ◌==◌, one-add}
+use Rattle.std.specs.List.{prefix_len}
+use Rattle.tree_model.specs.XmlChars.{is_no_colon, has_colon}
 use Rattle.xml_rows.specs.Numbers.{split_of}
 
 rest_case : (b : Bool) (c : ℕ) (name : List ℕ) (d : ℕ) (more : List ℕ) → (c == 58) ≡ b → (drop (prefix_len is_no_colon name) name ≡ d ∷ more → has_colon name ≡ true)

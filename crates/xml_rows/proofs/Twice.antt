@@ -1,9 +1,8 @@
 -- Pairs that stand twice in a list.
-use Rattle.std.proofs.Common.{◌≡◌, ℕ, ◌+◌, ◌<◌, ◌≤◌, Bool, true, false, List, [], ◌∷◌, ◌++◌, length, map, reverse, take, drop, get_or, ◌||◌, ◌&&◌, not, eqb, refl, sym, ap, ◌∙◌, subst, arith}
+use Rattle.std.proofs.Common.{◌≡◌, ℕ, ◌+◌, ◌<◌, Bool, true, false, List, [], ◌∷◌, ◌++◌, length, reverse, take, drop, get_or, ◌||◌, refl, sym, ap, ◌∙◌}
 use Rattle.std.specs.List.{list_any}
-use Rattle.std.specs.Str.{bytes_eq}
 use Rattle.std.proofs.Math.Bool.{or_comm, or-false}
-use Rattle.std.proofs.lemmas.List.{reverse-append, map_more, drop_more, map-append}
+use Rattle.std.proofs.lemmas.List.{reverse-append, map_more, drop_more}
 use Rattle.std.proofs.lemmas.List.Folds.{list_any-append}
 use Rattle.tree_model.specs.XmlMeaning.{Pair, is_same_pair, is_pair_in, has_twice}
 use Rattle.xml_rows.specs.Tagging.{expanded_of, all_expanded}

@@ -1,13 +1,12 @@
 -- The builder of the code as the work that it has done.
-use Rattle.std.specs.Prelude.{◌≡◌, ℕ, ◌+◌, ◌≤◌, true, List, [], ◌∷◌, length, Option, ⊤}
+use Rattle.std.specs.Prelude.{◌≡◌, ℕ, ◌+◌, ◌≤◌, true, List, [], ◌∷◌, length, Option}
 use Rattle.std.specs.Option.{option_map}
 use Rattle.std.specs.Str.{IsUtf8}
 use Rattle.tree_model.specs.Rows.{lines_of, ArePlaced}
 use Rattle.tree_model.specs.XmlChars.{is_xml_qname}
 use Rattle.tree_model.specs.XmlMeaning as meaning
 use Rattle.tree_model.specs.XmlMeaning.{with_attrs, tag_label, attr_labels}
-use Rattle.xml_rows.specs.Numbers.{Numbered}
-use Rattle.xml_rows.specs.Scoping.{Scoped, scope_in, scopes_in, AreUris, EachAreUris}
+use Rattle.xml_rows.specs.Scoping.{scope_in, scopes_in, AreUris, EachAreUris}
 use Rattle.xml_rows.specs.Tagging.{pairs_of, ArePairs}
 use Rattle.xml_rows.specs.Texts.{pending_count}
 use Rattle.xml_rows.specs.Values.{Gathered}

@@ -1,5 +1,5 @@
 -- What the builder needs of a piece.
-use Rattle.std.specs.Prelude.{◌≡◌, ℕ, true, List, ⊤}
+use Rattle.std.specs.Prelude.{◌≡◌, true, ⊤}
 use Rattle.std.specs.Str.{IsUtf8}
 use Rattle.tree_model.specs.XmlChars.{is_xml_ncname, is_xml_qname}
 use Rattle.tree_model.specs.XmlGood.{is_decimal, is_hexadecimal}

@@ -1,5 +1,5 @@
 -- Prefixes in scope, with the numbers of their URIs.
-use Rattle.std.specs.Prelude.{ℕ, ◌<◌, ◌≤◌, List, [], ◌∷◌, length, map, reverse, take, Option, Some, None, if◌then◌else◌}
+use Rattle.std.specs.Prelude.{ℕ, ◌<◌, ◌≤◌, List, [], ◌∷◌, map, reverse, take, Option, Some, None, if◌then◌else◌}
 use Rattle.std.specs.Str.{bytes_eq}
 use Rattle.tree_model.specs.XmlMeaning.{Pair, Scope}
 use Rattle.xml_rows.specs.Numbers.{uri_at}

@@ -1,5 +1,5 @@
 -- Rows that are being made, with the places of the open elements.
-use Rattle.std.specs.Prelude.{ℕ, ◌+◌, ◌-◌, List, [], ◌∷◌, length}
+use Rattle.std.specs.Prelude.{ℕ, ◌+◌, List}
 use Rattle.tree_model.specs.Forest.{Line}
 use Rattle.tree_model.specs.Labels.{Label, with_id}
 use Rattle.tree_model.specs.Rows.{name_at, value_at}

@@ -3,7 +3,7 @@ use Rattle.std.specs.Prelude.{ℕ, zero, suc, ◌+◌, ◌-◌, Bool, List, [], 
 use Rattle.tree_model.specs.Forest.{Line, attr_lines}
 use Rattle.tree_model.specs.Labels.{Label, doc_label, text_label, with_id, numbered_attrs}
 use Rattle.tree_model.specs.XmlMeaning.{Pair, Scope, first_scope, with_attrs, value_in_text, value_in_attr, line_ends, is_kept_text, tag_label, attr_labels, comm_label, pi_label, Fault, part_faults, tag_faults}
-use Rattle.xml_pieces.specs.Tokens.{Token, part_token, cdata_token, comm_token, pi_token, doctype_token, open_token, attr_token, quote_token, go_token, shut_token, close_token, token_text}
+use Rattle.xml_pieces.specs.Tokens.{Token, part_token, cdata_token, comm_token, pi_token, open_token, attr_token, quote_token, go_token, shut_token, close_token, token_text}
 
 -- the first of two faults, and of a list
 abbrev pub or_first : Option Fault → Option Fault → Option Fault

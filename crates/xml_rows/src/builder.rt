@@ -29,6 +29,7 @@ impl<'a> Parts<'a> {
         requires few { self.old.at + length (token_text (token_of piece)) < 2 ^ 31 }
         ensures work { OnOk result (parts_work self.new ≡ works strip (parts_work self.old) (token_of piece.entry)) }
         ensures tidy { OnOk result (IsTidy self.new.at self.new) }
+        ensures at { OnOk result (self.new.at ≡ self.old.at + length (token_text (token_of piece.entry))) }
     {
         let len = text_len(&piece);
         match self.doing {
@@ -102,11 +103,12 @@ impl<'a> Builder<'a> {
         })
     }
 
-    /// Takes the next piece.
+    /// Takes the next piece. For want of memory the builder is let go.
     pub fn take(self, piece: Piece<'a>, strip: bool) -> Result<Builder<'a>, NoMemory>
         requires fit { IsFit (token_of piece) }
         requires few { self.at + length (token_text (token_of piece)) < 2 ^ 31 }
-        ensures { IfOk result (λ b. b ≡ works strip self.entry (token_of piece.entry)) }
+        ensures work { IfOk result (λ b. b ≡ works strip self.entry (token_of piece.entry)) }
+        ensures at { IfOk result (λ b. b.at ≡ self.entry.at + length (token_text (token_of piece.entry))) }
     {
         let Builder { mut parts } = self;
         parts.take(piece, strip)?;
@@ -118,6 +120,13 @@ impl<'a> Builder<'a> {
         ensures { faults_of result ≡ self.now.fault }
     {
         self.parts.fault
+    }
+
+    /// The place of the next byte.
+    pub fn at(&self) -> usize
+        ensures { result ≡ self.now.at }
+    {
+        self.parts.at
     }
 
     /// How many rows there are.

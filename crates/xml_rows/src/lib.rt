@@ -21,3 +21,6 @@ mod values;
 
 pub use builder::{Builder, Made};
 pub use parts::Fault;
+
+#[cfg(test)]
+mod tests;

@@ -1,11 +1,9 @@
 // Rows that have a value: texts, comments and instructions.
 ghost use Rattle.std.specs.Prelude.{◌≡◌, ◌+◌, ◌<◌, ◌≤◌, ◌^◌, [], ℕ, List, length, IfOk, OnOk};
-ghost use Rattle.std.specs.List.{list_all};
 ghost use Rattle.std.specs.Char.{encode_utf8};
 ghost use Rattle.std.specs.Option.{is_some};
 ghost use Rattle.tree_model.specs.Labels.{local_name};
 ghost use Rattle.tree_model.specs.Rows.{name_at, lines_of, ArePlaced};
-ghost use Rattle.tree_model.specs.XmlChars as chars;
 ghost use Rattle.tree_model.specs.XmlMeaning as meaning;
 ghost use Rattle.tree_model.specs.declared.text.Name.{Name};
 ghost use Rattle.xml_rows.specs.Texts.{flushed, pending_count, valued_label};
@@ -15,23 +13,7 @@ use crate::characters::entity_char;
 use crate::rows::Rows;
 use crate::values::Values;
 use tree_model::{Kind, NoMemory};
-
-fn is_space(byte: u8) -> bool
-    ensures { result ≡ chars.is_space byte }
-{
-    byte == b' ' || byte == b'\t' || byte == b'\n' || byte == b'\r'
-}
-
-fn all_space(bytes: &[u8]) -> bool
-    ensures { result ≡ list_all chars.is_space bytes.now }
-{
-    for byte in bytes {
-        if !is_space(*byte) {
-            return false;
-        }
-    }
-    true
-}
+use xml_pieces::all_space;
 
 // Whether a text is kept.
 fn is_kept(text: &[u8], strip: bool) -> bool

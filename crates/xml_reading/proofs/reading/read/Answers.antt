@@ -26,7 +26,7 @@ loop-rest-smaller c = item_shorter _ _ _ _ c.in-Some.ensures
 pub loop-rest-preserved : goal.loop-rest-preserved
 loop-rest-preserved c =
     goes_here _ _ _ _ _ c.loop-rest.builder c.in_ok-builder-2.builder c.loop-rest.control c.step.new.self _ _ c.in_ok-step.field-0 c.loop-rest.invariant c.place.ensures c.in-Some.ensures c.if-not-branch.false c.in_ok-step.ensures
-    c.in_ok-builder-2.ensures
+    c.in_ok-builder-2.ensures.work
 
 pub returns-clause-led : goal.returns-clause-led
 returns-clause-led c = led_whole _ _ _ _ _ _ c.loop-rest.invariant (search rules)

@@ -1,6 +1,5 @@
-use Rattle.std.proofs.Common.{sym, ◌∙◌, [], ◌+◌, ◌≤◌, ◌<◌, arith, length, drop, get_or}
+use Rattle.std.proofs.Common.{sym, ◌∙◌, [], arith}
 use Rattle.std.proofs.lemmas.List.{drop_more, drop_all}
-use Rattle.xml_rows.specs.Scoping.{scope_in}
 use Rattle.xml_rows.specs.declared.tag.Pair.{Pair}
 use Rattle.xml_rows.proofs.Attributing.{along_declared, along_plain, along_last, last_lines, last_bad, last_expands}
 use Rattle.xml_rows.proofs.attributes.add_attributes.Goals as goal

@@ -1,4 +1,4 @@
-use Rattle.std.proofs.Common.{ap, ◌∙◌, sym, ◌<◌, length, subst, ℕ}
+use Rattle.std.proofs.Common.{ap, ◌∙◌}
 use Rattle.xml_rows.specs.Numbers.{uri_at}
 use Rattle.xml_rows.specs.Scoping.{scope_in}
 use Rattle.xml_rows.proofs.Resolving.{or_within, uri_or, placed_begun, element_lines}

@@ -1,9 +1,5 @@
-use Rattle.std.proofs.Common.{rules}
-use Rattle.xml_rows.proofs.Digits.{decimal_small, decimal_in_range}
+use Rattle.xml_rows.proofs.Digits.{decimal_is_char}
 use Rattle.xml_rows.proofs.characters.decimal_char.Goals as goal
 
-pub number-requires-clause-small : goal.number-requires-clause-small
-number-requires-clause-small c = decimal_small _ c.requires
-
-pub unwrap-requires : goal.unwrap-requires
-unwrap-requires c = c.from_u32.ensures.succeeds (rw c.number.ensures (decimal_in_range _ c.requires))
+pub char_of-requires-clause-is_char : goal.char_of-requires-clause-is_char
+char_of-requires-clause-is_char c = decimal_is_char _ c.requires

@@ -1,4 +1,4 @@
-use Rattle.std.proofs.Common.{sym, ◌∙◌, ap, ◌≡◌, ◌∷◌, [], ◌+◌, length, drop, get_or, arith, rules}
+use Rattle.std.proofs.Common.{sym, ◌∙◌, ap, ◌∷◌, [], length, arith}
 use Rattle.std.proofs.lemmas.List.{drop_more, drop_all}
 use Rattle.tree_model.specs.XmlMeaning.{is_bad_binding}
 use Rattle.xml_rows.specs.Scoping.{binding, scope_in}

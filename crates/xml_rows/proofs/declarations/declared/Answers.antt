@@ -1,4 +1,4 @@
-use Rattle.std.proofs.Common.{sym, ◌∙◌, true, false}
+use Rattle.std.proofs.Common.{sym, true, false}
 use Rattle.xml_rows.proofs.Declaring.{declared_split, declared_whole}
 use Rattle.xml_rows.proofs.declarations.declared.Goals as goal
 

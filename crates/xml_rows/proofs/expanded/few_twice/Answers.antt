@@ -1,4 +1,4 @@
-use Rattle.std.proofs.Common.{sym, [], ◌≡◌}
+use Rattle.std.proofs.Common.{sym, []}
 use Rattle.xml_rows.specs.declared.tag.Expanded.{Expanded}
 use Rattle.xml_rows.proofs.Twice.{found_here, found_more}
 use Rattle.xml_rows.proofs.expanded.few_twice.Goals as goal

@@ -1,4 +1,4 @@
-use Rattle.std.proofs.Common.{sym, ◌∙◌, [], ◌≡◌, ◌<◌, length, get_or, refl, rules}
+use Rattle.std.proofs.Common.{sym, ◌∙◌, [], ◌<◌, length, get_or, refl, rules}
 use Rattle.xml_rows.specs.Known.{Key}
 use Rattle.xml_rows.specs.declared.tag.Expanded.{Expanded}
 use Rattle.xml_rows.proofs.Keyed.{seen_here, seen_more}

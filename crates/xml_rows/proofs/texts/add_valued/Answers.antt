@@ -1,4 +1,4 @@
-use Rattle.std.proofs.Common.{◌≡◌, ◌++◌, length, ap, ◌∙◌, sym, [], rules}
+use Rattle.std.proofs.Common.{◌≡◌, ◌++◌, rules}
 use Rattle.tree_model.specs.XmlMeaning.{line_ends}
 use Rattle.xml_rows.proofs.Valued.{valued_lines, valued_placed, value_within}
 use Rattle.xml_rows.proofs.texts.add_valued.Goals as goal

@@ -1,4 +1,4 @@
-use Rattle.std.proofs.Common.{◌≡◌, ◌++◌, length, ap, ◌∙◌, sym, [], rules, true, false}
+use Rattle.std.proofs.Common.{◌≡◌, rules, true}
 use Rattle.tree_model.specs.XmlMeaning.{is_kept_text}
 use Rattle.tree_model.specs.declared.row.Kind.TheVariants.{Text}
 use Rattle.xml_rows.proofs.Valued.{valued_lines, valued_placed, value_within, text_flushed}

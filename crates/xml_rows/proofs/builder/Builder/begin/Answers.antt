@@ -1,5 +1,4 @@
-use Rattle.std.proofs.Common.{◌<◌, length, rules, arith, ap, ◌∙◌, sym}
-use Rattle.xml_rows.specs.Scoping.{AreUris, EachAreUris}
+use Rattle.std.proofs.Common.{◌<◌, length, rules, arith, ap}
 use Rattle.xml_rows.specs.Texts.{pending_count}
 use Rattle.xml_rows.proofs.builder.Builder.begin.Goals as goal
 

@@ -1,6 +1,4 @@
-use Rattle.std.proofs.Common.{◌≡◌, sym, ap, ◌∙◌, subst, rules}
-use Rattle.tree_model.specs.Rows.{ArePlaced}
-use Rattle.tree_model.specs.declared.row.Row.{Row}
+use Rattle.std.proofs.Common.{◌≡◌, ap, rules}
 use Rattle.xml_rows.specs.declared.parts.Parts.{Parts}
 use Rattle.xml_rows.proofs.builder.Builder.finish.Goals as goal
 

@@ -1,13 +1,7 @@
-use Rattle.std.proofs.Common.{rules, arith, ◌≡◌, ◌+◌, ◌++◌, ◌∷◌, [], length, sym, ap, ◌∙◌, subst, List}
-use Rattle.std.proofs.lemmas.List.{length-map}
-use Rattle.tree_model.specs.Rows.{lines_of, ArePlaced}
-use Rattle.tree_model.specs.XmlMeaning.{Scope, with_attrs, plain_attrs, attr_label, attr_labels}
-use Rattle.tree_model.specs.declared.text.Name.{Name}
-use Rattle.tree_model.proofs.Tables.{lines_length}
-use Rattle.xml_rows.specs.Numbers.{Begins}
+use Rattle.std.proofs.Common.{arith, ap, ◌∙◌}
+use Rattle.tree_model.specs.XmlMeaning.{with_attrs}
 use Rattle.xml_rows.specs.Scoping.{scope_in}
-use Rattle.xml_rows.specs.Tagging.{pairs_of, expanded_all, all_expanded}
-use Rattle.xml_rows.specs.Work.{with_tag}
+use Rattle.xml_rows.specs.Tagging.{pairs_of}
 use Rattle.xml_rows.proofs.Tagged.{pairs_named, pairs_within, plain_few, tag_bad_by, tag_lines_by}
 use Rattle.xml_rows.proofs.elements.Elements.add_tag.Goals as goal
 

@@ -1,4 +1,4 @@
-use Rattle.std.proofs.Common.{rules, sym, ◌∙◌, ap, ◌≡◌, ◌<◌, length, subst, None, Some}
+use Rattle.std.proofs.Common.{rules, sym, ◌∙◌, ap, ◌<◌, length, subst}
 use Rattle.indexmap.specs.IndexMap.{get}
 use Rattle.std.specs.Map.{lookup}
 use Rattle.xml_rows.specs.Known.{is_same_key}

@@ -1,4 +1,4 @@
-use Rattle.std.proofs.Common.{rules, ◌≡◌, sym, ap, ◌∙◌, refl, None, Some}
+use Rattle.std.proofs.Common.{rules, sym, ap, ◌∙◌, refl, None, Some}
 use Rattle.std.specs.Prelude.{if◌then◌else◌}
 use Rattle.tree_model.specs.XmlMeaning.{unknown_entity}
 use Rattle.xml_rows.specs.BuilderView.{faults_of}

@@ -1,4 +1,4 @@
-use Rattle.std.proofs.Common.{arith, rules, ◌≡◌, ◌+◌, ◌≤◌, [], sym, ap, ◌∙◌, refl, length}
+use Rattle.std.proofs.Common.{arith, ap, ◌∙◌, refl}
 use Rattle.tree_model.specs.Labels.{local_name}
 use Rattle.tree_model.specs.Rows.{lines_of, ArePlaced}
 use Rattle.tree_model.specs.XmlMeaning.{line_ends}

@@ -1,4 +1,4 @@
-use Rattle.std.proofs.Common.{arith, ◌≡◌, ◌+◌, ◌≤◌, sym, ap, ◌∙◌, refl, length}
+use Rattle.std.proofs.Common.{ap, ◌∙◌, refl}
 use Rattle.tree_model.specs.Rows.{lines_of}
 use Rattle.tree_model.proofs.Tables.{lines_valued}
 use Rattle.xml_rows.specs.BuilderView.{tag_of}

@@ -1,4 +1,4 @@
-use Rattle.std.proofs.Common.{arith, rules, ◌≡◌, ◌+◌, ◌≤◌, [], ◌∷◌, sym, ap, ◌∙◌, refl, length, Some, None}
+use Rattle.std.proofs.Common.{arith, ap, refl, length}
 use Rattle.xml_rows.specs.BuilderView.{tag_of}
 use Rattle.xml_rows.specs.Texts.{pending_count}
 use Rattle.xml_rows.proofs.Parted.{same_work, tag_ready, tag_fault_by, outer_entered, each_entered}

@@ -1,4 +1,4 @@
-use Rattle.std.proofs.Common.{arith, rules, ◌≡◌, ap, ◌∙◌, length}
+use Rattle.std.proofs.Common.{arith, ap}
 use Rattle.xml_rows.specs.Texts.{pending_count}
 use Rattle.xml_rows.proofs.Parted.{count_lines, ready_content, content_ready}
 use Rattle.xml_rows.proofs.parts.Parts.text.Goals as goal

@@ -1,6 +1,4 @@
-use Rattle.std.proofs.Common.{arith, rules, ◌≡◌, ◌+◌, ◌≤◌, [], ◌∷◌, ◌++◌, sym, ap, ◌∙◌, refl, length, None, Some}
 use Rattle.xml_rows.proofs.Quoted.{value_ready, ready_value, value_more}
-use Rattle.std.specs.Char.{encode_utf8}
 use Rattle.std.proofs.lemmas.Str.{IsUtf8-encode}
 use Rattle.xml_rows.proofs.parts.Parts.value_character.Goals as goal
 

@@ -1,4 +1,4 @@
-use Rattle.std.proofs.Common.{arith, rules, ◌≡◌, ◌+◌, ◌≤◌, [], ◌∷◌, ◌++◌, sym, ap, ◌∙◌, refl, length, None, Some}
+use Rattle.std.proofs.Common.{rules, sym, ap, ◌∙◌, refl, None, Some}
 use Rattle.std.specs.Prelude.{if◌then◌else◌}
 use Rattle.tree_model.specs.XmlMeaning.{unknown_entity}
 use Rattle.tree_model.proofs.XmlUtf8.{text_entity}

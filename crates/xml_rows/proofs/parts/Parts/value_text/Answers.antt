@@ -1,6 +1,4 @@
-use Rattle.std.proofs.Common.{arith, rules, ◌≡◌, ◌+◌, ◌≤◌, [], ◌∷◌, ◌++◌, sym, ap, ◌∙◌, refl, length, None, Some}
 use Rattle.xml_rows.proofs.Quoted.{value_ready, ready_value, value_more}
-use Rattle.tree_model.specs.XmlMeaning.{spaced}
 use Rattle.tree_model.proofs.XmlUtf8.{utf8_spaced}
 use Rattle.xml_rows.proofs.parts.Parts.value_text.Goals as goal
 

@@ -1,4 +1,4 @@
-use Rattle.std.proofs.Common.{ap, arith, rules, ◌<◌, ◌≡◌, length}
+use Rattle.std.proofs.Common.{ap, rules, ◌<◌, length}
 use Rattle.xml_rows.specs.Table.{Table}
 use Rattle.xml_rows.proofs.Rowing.{ended_at, placed_at}
 use Rattle.xml_rows.proofs.rows.Rows.end.Goals as goal

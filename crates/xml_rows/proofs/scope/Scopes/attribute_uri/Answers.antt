@@ -1,5 +1,5 @@
-use Rattle.std.proofs.Common.{sym, ◌∙◌, ap, ◌<◌, subst}
-use Rattle.std.specs.Option.{option_map, IfSome}
+use Rattle.std.proofs.Common.{sym, ◌∙◌, ap}
+use Rattle.std.specs.Option.{option_map}
 use Rattle.xml_rows.specs.Numbers.{uri_at}
 use Rattle.xml_rows.proofs.Scoped.{attribute_split, attribute_whole, number_within}
 use Rattle.xml_rows.proofs.scope.Scopes.attribute_uri.Goals as goal

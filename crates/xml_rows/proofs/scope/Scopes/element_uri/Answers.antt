@@ -1,5 +1,5 @@
-use Rattle.std.proofs.Common.{sym, ◌∙◌, ap, ◌<◌, [], true, false}
-use Rattle.std.specs.Option.{option_map, IfSome}
+use Rattle.std.proofs.Common.{sym, ◌∙◌, ap, [], true, false}
+use Rattle.std.specs.Option.{option_map}
 use Rattle.xml_rows.specs.Numbers.{uri_at}
 use Rattle.xml_rows.proofs.Scoped.{element_split, element_whole, number_within}
 use Rattle.xml_rows.proofs.scope.Scopes.element_uri.Goals as goal

@@ -1,4 +1,4 @@
-use Rattle.std.proofs.Common.{◌∙◌, ap, reverse}
+use Rattle.std.proofs.Common.{◌∙◌, ap}
 use Rattle.xml_rows.specs.Leaving.{outer_less}
 use Rattle.xml_rows.specs.Scoping.{Scoped}
 use Rattle.xml_rows.proofs.Nesting.{outer_pop}

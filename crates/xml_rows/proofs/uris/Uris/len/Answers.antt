@@ -1,4 +1,4 @@
-use Rattle.std.proofs.Common.{rules, arith, ◌<◌, length, map, ap, ◌∙◌, ◌≡◌, subst, ℕ, List, eqb}
+use Rattle.std.proofs.Common.{arith, ◌<◌, length, ap, ◌≡◌, subst, ℕ, List, eqb}
 use Rattle.std.specs.Str.{bytes_eq}
 use Rattle.std.specs.String.{string_bytes}
 use Rattle.std.proofs.lemmas.List.{length-map}

@@ -1,4 +1,4 @@
-use Rattle.std.proofs.Common.{rules, subst, sym, ◌∙◌, ap, ◌≡◌, ℕ, List}
+use Rattle.std.proofs.Common.{subst, sym, ◌∙◌, ◌≡◌, ℕ, List}
 use Rattle.std.specs.String.{string_bytes}
 use Rattle.xml_rows.specs.Numbers.{uri_at}
 use Rattle.xml_rows.proofs.Finding.{text_found, text_stored}
