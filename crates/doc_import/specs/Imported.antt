@@ -3,10 +3,11 @@ use Rattle.std.specs.Prelude.{ℕ, Bool, List, Result, Ok, Err, ⊤}
 use Rattle.tree_model.specs.Forest.{Forest, Line, grove_of, IsFlat}
 use Rattle.tree_model.specs.Labels.{Label}
 use Rattle.tree_model.specs.Rows.{lines_of, ArePlaced}
-use Rattle.tree_model.specs.Reads.{Reads, read_as, too_long, malformed, too_many_rows}
-use Rattle.doc_import.specs.declared.reading.Built.{Built}
-use Rattle.doc_import.specs.declared.reading.ImportFault.{ImportFault}
-use Rattle.doc_import.specs.declared.reading.ImportFault.TheVariants.{TooLong, Malformed, TooManyRows, NoMemory}
+use Rattle.tree_model.specs.XmlMeaning.{unknown_entity, bad_namespace}
+use Rattle.tree_model.specs.XmlReads.{ReadsXml, as_tree, too_many_bytes, not_utf8, other_encoding, internal_subset, not_well_formed, first_fault, too_many_nodes}
+use Rattle.doc_import.specs.declared.whole_text.Built.{Built}
+use Rattle.doc_import.specs.declared.fault.ImportFault.{ImportFault}
+use Rattle.doc_import.specs.declared.fault.ImportFault.TheVariants.{TooLong, NotUtf8, Encoding, InternalSubset, Malformed, UnknownEntity, Namespace, TooManyRows, NoMemory}
 
 -- what the rows say, with their names and values
 abbrev pub built_lines : Built → List (Line Label)
@@ -23,8 +24,13 @@ pub record IsBuilt (built : Built) : Type 0 where
 
 -- the tree that is read, or the first fault; want of memory may be answered to any text
 abbrev pub IsImport : List ℕ → Bool → Result Built ImportFault → Type 0
-IsImport text strip (Ok built) = IsBuilt built × Reads text strip (read_as (built_forest built))
-IsImport text strip (Err TooLong) = Reads text strip too_long
-IsImport text strip (Err Malformed) = Reads text strip malformed
-IsImport text strip (Err TooManyRows) = Reads text strip too_many_rows
+IsImport text strip (Ok built) = IsBuilt built × ReadsXml text strip (as_tree (built_forest built))
+IsImport text strip (Err TooLong) = ReadsXml text strip too_many_bytes
+IsImport text strip (Err (NotUtf8 at)) = ReadsXml text strip (not_utf8 at)
+IsImport text strip (Err (Encoding at)) = ReadsXml text strip (other_encoding at)
+IsImport text strip (Err (InternalSubset at)) = ReadsXml text strip (internal_subset at)
+IsImport text strip (Err Malformed) = ReadsXml text strip not_well_formed
+IsImport text strip (Err (UnknownEntity at)) = ReadsXml text strip (first_fault (unknown_entity at))
+IsImport text strip (Err (Namespace at)) = ReadsXml text strip (first_fault (bad_namespace at))
+IsImport text strip (Err TooManyRows) = ReadsXml text strip too_many_nodes
 IsImport text strip (Err NoMemory) = ⊤

@@ -1,13 +1,7 @@
--- What an import gives, and how a text is read: its pieces, their order, and the rows that they make.
-pub mod Imported
-pub mod Readers
-pub mod Tokens
-pub mod Item
-pub mod View
-pub mod Shape
-pub mod Work
+-- What an import gives, and how a text is read.
+pub mod Heads
+pub mod Subsets
 pub mod Machine
-pub mod MachineView
-pub mod ReaderView
-pub mod Building
-pub mod OneTree
+pub mod Found
+pub mod Imported
+pub mod Stopping

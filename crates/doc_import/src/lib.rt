@@ -1,13 +1,14 @@
 //! Reads the XML of a document into rows, names and values.
 #![tactic(auto)]
 
-mod build;
-mod control;
-mod finish;
-mod item;
+mod fault;
+mod head;
 mod reading;
+mod subset;
+mod whole_text;
 
-pub use reading::{Built, ImportFault, import, one_tree};
+pub use fault::ImportFault;
+pub use whole_text::{Built, import};
 
 #[cfg(test)]
 mod tests;

@@ -7,10 +7,13 @@ use Rattle.std.specs.Bool.{Decides}
 use Rattle.std.proofs.lemmas.Bool.{and_parts, and_from, or_parts}
 use Rattle.std.proofs.lemmas.Bool.Decides.{same_from_decides}
 use Rattle.std.proofs.lemmas.Slice.Eq.{bytes_eq-Decides}
-use Rattle.std.proofs.lemmas.List.{drop_all}
+use Rattle.std.proofs.lemmas.List.{drop_all, map-append, length-map}
+use Rattle.std.proofs.lemmas.List.Elements.{All-nil, All-cons, All-head, All-tail, All-append}
 use Rattle.tree_model.specs.Printed.{base_text, list_text}
 use Rattle.tree_model.specs.Sound.{are_distinct}
 use Rattle.tree_model.specs.States.{Base, without_name}
+use Rattle.doc_store.specs.Stored.{Stored, base_of}
+use Rattle.kernel_session.specs.Databases.{AreWhole}
 
 abbrev is_named : List ℕ → Base → Bool
 is_named name base = bytes_eq base.name name
@@ -146,8 +149,58 @@ joined : (b : Base) (bases : List Base) → list_text (b ∷ bases) ≡ base_tex
 joined b [] = sym (append-nil (base_text b))
 joined b (next ∷ bases) = ap (λ l. base_text b ++ 10 ∷ l) (joined next bases)
 
-pub list_written : (bases rest : List Base) (first : Base) (old front out : List ℕ) (i : ℕ) → bases ≡ first ∷ rest → front ≡ old ++ base_text first → length rest ≤ i
-    → out ++ more_lines (drop i rest) ≡ front ++ more_lines rest → out ≡ old ++ list_text bases
-list_written bases rest first old front out i e head le text =
-    sym (append-nil out) ∙ ap (λ l. out ++ more_lines l) (sym (drop_all i rest le)) ∙ text ∙ ap (λ l. l ++ more_lines rest) head ∙ append_assoc old (base_text first) (more_lines rest)
-    ∙ ap (λ l. old ++ l) (sym (joined first rest) ∙ ap list_text (sym e))
+-- the same, of databases
+abbrev pub lines_behind : List Stored → List ℕ
+lines_behind [] = []
+lines_behind (d ∷ databases) = (10 ∷ []) ++ (base_text (base_of d) ++ lines_behind databases)
+
+more_lines_are : (databases : List Stored) → more_lines (map base_of databases) ≡ lines_behind databases
+more_lines_are [] = refl
+more_lines_are (d ∷ databases) = ap (λ l. 10 ∷ (base_text (base_of d) ++ l)) (more_lines_are databases)
+
+pub lines_written : (databases rest : List Stored) (first : Stored) (old front out : List ℕ) (i : ℕ) → databases ≡ first ∷ rest → front ≡ old ++ base_text (base_of first) → length rest ≤ i
+    → out ++ lines_behind (drop i rest) ≡ front ++ lines_behind rest → out ≡ old ++ list_text (map base_of databases)
+lines_written databases rest first old front out i e head le text =
+    sym (append-nil out) ∙ ap (λ l. out ++ lines_behind l) (sym (drop_all i rest le)) ∙ text ∙ ap (λ l. l ++ lines_behind rest) head ∙ append_assoc old (base_text (base_of first)) (lines_behind rest)
+    ∙ ap (λ l. old ++ (base_text (base_of first) ++ l)) (sym (more_lines_are rest))
+    ∙ ap (λ l. old ++ l) (sym (joined (base_of first) (map base_of rest)) ∙ ap (λ l. list_text (map base_of l)) (sym e))
+
+-- ---- databases, and their bases
+
+abbrev has_name : List ℕ → Stored → Bool
+has_name name d = bytes_eq d.name name
+
+place_same : (name : List ℕ) (databases : List Stored) → prefix_len (λ d. not (has_name name d)) databases ≡ place name (map base_of databases)
+place_same name [] = refl
+place_same name (d ∷ databases) = ap (λ n. cond (not (has_name name d)) (1 + n) 0) (place_same name databases)
+
+position_same : (name : List ℕ) (databases : List Stored) → position (λ d. bytes_eq d.name name) databases ≡ position (λ (b : Base). bytes_eq b.name name) (map base_of databases)
+position_same name databases =
+    ap (λ n. cond (nat_lt n (length databases)) (Some n) None) (place_same name databases)
+    ∙ ap (λ n. cond (nat_lt (place name (map base_of databases)) n) (Some (place name (map base_of databases))) None) (sym (length-map databases base_of))
+
+pub bases_new : (databases : List Stored) (d : Stored) → None ≡ position (λ e. bytes_eq e.name d.name) databases → map base_of (databases ++ d ∷ []) ≡ without_name d.name (map base_of databases) ++ base_of d ∷ []
+bases_new databases d h = map-append base_of databases (d ∷ []) ∙ put_new (map base_of databases) (base_of d) (h ∙ position_same d.name databases)
+
+removed_same : (databases : List Stored) (n : ℕ) → map base_of (remove databases n) ≡ remove (map base_of databases) n
+removed_same [] zero = refl
+removed_same [] (suc n) = refl
+removed_same (d ∷ databases) zero = refl
+removed_same (d ∷ databases) (suc n) = ap (λ l. base_of d ∷ l) (removed_same databases n)
+
+pub bases_over : (databases : List Stored) (d : Stored) (n : ℕ) → are_distinct (names_of (map base_of databases)) ≡ true → Some n ≡ position (λ e. bytes_eq e.name d.name) databases
+    → map base_of (remove (databases ++ d ∷ []) n) ≡ without_name d.name (map base_of databases) ++ base_of d ∷ []
+bases_over databases d n distinct h =
+    removed_same (databases ++ d ∷ []) n ∙ ap (λ l. remove l n) (map-append base_of databases (d ∷ []))
+    ∙ put_over (map base_of databases) (base_of d) n distinct (h ∙ position_same d.name databases)
+
+-- of none a branch is out
+pub whole_more : (databases : List Stored) (d : Stored) → AreWhole databases → d.branched ≡ false → AreWhole (databases ++ d ∷ [])
+whole_more databases d h own = All-append (λ (e : Stored). e.branched ≡ false) databases (d ∷ []) h (All-cons (λ (e : Stored). e.branched ≡ false) d [] own (All-nil _))
+
+pub whole_less : (databases : List Stored) (n : ℕ) → AreWhole databases → AreWhole (remove databases n)
+whole_less [] zero h = h
+whole_less [] (suc n) h = h
+whole_less (d ∷ databases) zero h = All-tail (λ (e : Stored). e.branched ≡ false) d databases h
+whole_less (d ∷ databases) (suc n) h =
+    All-cons (λ (e : Stored). e.branched ≡ false) d (remove databases n) (All-head (λ (e : Stored). e.branched ≡ false) d databases h) (whole_less databases n (All-tail (λ (e : Stored). e.branched ≡ false) d databases h))

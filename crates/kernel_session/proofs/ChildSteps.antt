@@ -15,8 +15,8 @@ use Rattle.tree_model.specs.Rows.{line_of}
 use Rattle.tree_model.specs.Trees.{length-lines, length-attr_lines}
 use Rattle.tree_model.specs.declared.row.Row.{Row}
 use Rattle.tree_model.proofs.Standing.{IsIn, in_contains, in_filter, children_in, own_line, Stands, stands, tops_in, place_below, node_places, places_in_order, in_order_in}
-use Rattle.doc_import.specs.Imported.{IsBuilt, built_lines, built_forest}
-use Rattle.doc_import.specs.declared.reading.Built.{Built}
+use Rattle.kernel_session.specs.Tables.{IsTable, table_lines, table_forest}
+use Rattle.kernel_session.specs.declared.table.Table.{Table}
 use Rattle.kernel_session.specs.QueryView.{node_test}
 use Rattle.kernel_session.specs.declared.query.Test.{Test}
 use Rattle.kernel_session.proofs.Contents.{rows_counted}
@@ -27,33 +27,33 @@ use Rattle.kernel_session.specs.Places.{places_of, child_places, text_at, step_p
 -- ---- the node of a row, and its children
 
 -- a node at a place below the number of rows
-pub node_there : (built : Built) → IsBuilt built → (place : ℕ) → place < length built.rows.items → (node : Node Label) × IsIn (nodes (built_forest built)) node × (node.place ≡ place)
-node_there built h place lt =
-    some_there 0 (count (built_forest built)) place (nodes (built_forest built)) (node_places 0 (built_forest built)) (omega arith) (omega (arith, rows_counted built h))
+pub node_there : (table : Table) → IsTable table → (place : ℕ) → place < length table.rows.now → (node : Node Label) × IsIn (nodes (table_forest table)) node × (node.place ≡ place)
+node_there table h place lt =
+    some_there 0 (count (table_forest table)) place (nodes (table_forest table)) (node_places 0 (table_forest table)) (omega arith) (omega (arith, rows_counted table h))
 
 -- the children of the node of a row are the trees behind its attributes
-pub record ChildrenAt (built : Built) (place : ℕ) (row : Row) : Type 0 where
+pub record ChildrenAt (table : Table) (place : ℕ) (row : Row) : Type 0 where
   pub order : place + row.asize ≤ place + row.size
-  pub within : place + row.size ≤ length built.rows.items
-  pub trees : AreTrees (built_lines built) (place + row.asize) (place + row.size)
-  pub places : (test : NodeTest) → passing_between test (built_lines built) (place + row.asize) (place + row.size) ≡ child_places (built_forest built) test place
+  pub within : place + row.size ≤ length table.rows.now
+  pub trees : AreTrees (table_lines table) (place + row.asize) (place + row.size)
+  pub places : (test : NodeTest) → passing_between test (table_lines table) (place + row.asize) (place + row.size) ≡ child_places (table_forest table) test place
 
-children_of : (built : Built) → IsBuilt built → (node : Node Label) → IsIn (nodes (built_forest built)) node → (row : Row) → node.place < length built.rows.items → row ≡ get_or built.rows.items node.place row → ChildrenAt built node.place row
-children_of built h node in_f row lt is = record {
+children_of : (table : Table) → IsTable table → (node : Node Label) → IsIn (nodes (table_forest table)) node → (row : Row) → node.place < length table.rows.now → row ≡ get_or table.rows.now node.place row → ChildrenAt table node.place row
+children_of table h node in_f row lt is = record {
   order = omega (arith, asize, size);
-  within = omega (arith, size, ap length whole, length-append s.before (own ∷ (al ++ (ks ++ s.behind))), length-append al (ks ++ s.behind), length-append ks s.behind, length-attr_lines 1 node.attrs, length-lines (1 + length node.attrs) node.kids, length-map built.rows.items line, s.at);
+  within = omega (arith, size, ap length whole, length-append s.before (own ∷ (al ++ (ks ++ s.behind))), length-append al (ks ++ s.behind), length-append ks s.behind, length-attr_lines 1 node.attrs, length-lines (1 + length node.attrs) node.kids, length-map table.rows.now line, s.at);
   trees = kids;
   places = λ test.
-      passing_are test (built_lines built) (node.place + row.asize) (node.place + row.size) kids
+      passing_are test (table_lines table) (node.place + row.asize) (node.place + row.size) kids
       ∙ ap (λ n. places_of (filter (λ (child : Node Label). passes test child.label) (tops_from (node.place + n) node.kids))) asize
-      ∙ sym (child_places_are (built_forest built) test node in_f);
+      ∙ sym (child_places_are (table_forest table) test node in_f);
 }
   where
     line : Row → Line Label
-    line = line_of built.names built.heap
+    line = line_of table.names.now table.heap.now
 
-    s : Stands Label 0 (flatten (built_forest built)) node
-    s = stands 0 0 (built_forest built) node in_f
+    s : Stands Label 0 (flatten (table_forest table)) node
+    s = stands 0 0 (table_forest table) node in_f
 
     own : Line Label
     own = own_line s.dist node
@@ -64,11 +64,11 @@ children_of built h node in_f row lt is = record {
     ks : List (Line Label)
     ks = lines (1 + length node.attrs) node.kids
 
-    whole : built_lines built ≡ s.before ++ (own ∷ (al ++ (ks ++ s.behind)))
+    whole : table_lines table ≡ s.before ++ (own ∷ (al ++ (ks ++ s.behind)))
     whole = sym h.flat ∙ s.are
 
     same : line row ≡ own
-    same = sym (line_at built node.place row lt is) ∙ line_there (built_lines built) s.before own (al ++ (ks ++ s.behind)) node.place (line row) whole (omega (arith, s.at))
+    same = sym (line_at table node.place row lt is) ∙ line_there (table_lines table) s.before own (al ++ (ks ++ s.behind)) node.place (line row) whole (omega (arith, s.at))
 
     asize : row.asize ≡ 1 + length node.attrs
     asize = ap (λ (l : Line Label). l.asize) same
@@ -76,7 +76,7 @@ children_of built h node in_f row lt is = record {
     size : row.size ≡ 1 + length node.attrs + count node.kids
     size = ap (λ (l : Line Label). l.size) same
 
-    kids : AreTrees (built_lines built) (node.place + row.asize) (node.place + row.size)
+    kids : AreTrees (table_lines table) (node.place + row.asize) (node.place + row.size)
     kids = record {
       trees = node.kids;
       before = s.before ++ (own ∷ al);
@@ -87,30 +87,30 @@ children_of built h node in_f row lt is = record {
       ends = omega (arith, asize, size);
     }
 
-pub row_children : (built : Built) → IsBuilt built → (place : ℕ) (row : Row) → place < length built.rows.items → row ≡ get_or built.rows.items place row → ChildrenAt built place row
-row_children built h place row lt is =
-    let there = node_there built h place lt in
-    subst (λ n. ChildrenAt built n row) there.2 (children_of built h there.0 there.1 row (omega (arith, there.2)) (is ∙ ap (λ n. get_or built.rows.items n row) (sym there.2)))
+pub row_children : (table : Table) → IsTable table → (place : ℕ) (row : Row) → place < length table.rows.now → row ≡ get_or table.rows.now place row → ChildrenAt table place row
+row_children table h place row lt is =
+    let there = node_there table h place lt in
+    subst (λ n. ChildrenAt table n row) there.2 (children_of table h there.0 there.1 row (omega (arith, there.2)) (is ∙ ap (λ n. get_or table.rows.now n row) (sym there.2)))
 
 -- ---- the documents
 
-whole_trees : (built : Built) → IsBuilt built → AreTrees (built_lines built) 0 (length built.rows.items)
-whole_trees built h = record {
-  trees = built_forest built;
+whole_trees : (table : Table) → IsTable table → AreTrees (table_lines table) 0 (length table.rows.now)
+whole_trees table h = record {
+  trees = table_forest table;
   before = [];
   dist = 0;
   behind = [];
-  are = sym h.flat ∙ sym (append-nil (flatten (built_forest built)));
+  are = sym h.flat ∙ sym (append-nil (flatten (table_forest table)));
   starts = refl;
-  ends = omega (arith, rows_counted built h);
+  ends = omega (arith, rows_counted table h);
 }
 
-pub all_trees : (built : Built) (len : ℕ) → IsBuilt built → len ≡ length built.rows.items → AreTrees (built_lines built) 0 len
-all_trees built len h e = subst (AreTrees (built_lines built) 0) (sym e) (whole_trees built h)
+pub all_trees : (table : Table) (len : ℕ) → IsTable table → len ≡ length table.rows.now → AreTrees (table_lines table) 0 len
+all_trees table len h e = subst (AreTrees (table_lines table) 0) (sym e) (whole_trees table h)
 
-all_tops : (built : Built) (len : ℕ) → IsBuilt built → len ≡ length built.rows.items → tops_between (built_lines built) 0 len ≡ places_of (tops (built_forest built))
+pub all_tops : (table : Table) (len : ℕ) → IsTable table → len ≡ length table.rows.now → tops_between (table_lines table) 0 len ≡ places_of (tops (table_forest table))
 unfolding whole_trees
-all_tops built len h e = ap (tops_between (built_lines built) 0) e ∙ tops_are (built_lines built) 0 (length built.rows.items) (whole_trees built h)
+all_tops table len h e = ap (tops_between (table_lines table) 0) e ∙ tops_are (table_lines table) 0 (length table.rows.now) (whole_trees table h)
 
 -- ---- steps
 
@@ -126,21 +126,21 @@ below f [] h k d lt = absurd (omega arith)
 below f (node ∷ found) h zero d lt = place_below f node (h node (inl refl))
 below f (node ∷ found) h (suc k) d lt = below f found (λ other i. h other (inr i)) k d (omega arith)
 
-pub places_within : (built : Built) (found : List (Node Label)) (places : List ℕ) → IsBuilt built → ((node : Node Label) → IsIn found node → IsIn (nodes (built_forest built)) node) → places ≡ places_of found
-    → All (λ place. place < length built.rows.items) places
-places_within built found places h are e k d lt =
-    let b = below (built_forest built) found are k d (omega (arith, ap length e)) in
-    omega (arith, b, ap (λ l. get_or l k d) e, rows_counted built h)
+pub places_within : (table : Table) (found : List (Node Label)) (places : List ℕ) → IsTable table → ((node : Node Label) → IsIn found node → IsIn (nodes (table_forest table)) node) → places ≡ places_of found
+    → All (λ place. place < length table.rows.now) places
+places_within table found places h are e k d lt =
+    let b = below (table_forest table) found are k d (omega (arith, ap length e)) in
+    omega (arith, b, ap (λ l. get_or l k d) e, rows_counted table h)
 
-pub leads_within : (built : Built) (places : List ℕ) (rest : List NodeTest) (value : List (Node Label)) → IsBuilt built → LeadsOn (built_forest built) places rest value → All (λ place. place < length built.rows.items) places
-leads_within built places rest value h l = places_within built l.found places h l.are_nodes l.stand
+pub leads_within : (table : Table) (places : List ℕ) (rest : List NodeTest) (value : List (Node Label)) → IsTable table → LeadsOn (table_forest table) places rest value → All (λ place. place < length table.rows.now) places
+leads_within table places rest value h l = places_within table l.found places h l.are_nodes l.stand
 
-pub leads_first : (built : Built) (len : ℕ) (places : List ℕ) (tests : List NodeTest) → IsBuilt built → len ≡ length built.rows.items → places ≡ tops_between (built_lines built) 0 len
-    → LeadsOn (built_forest built) places tests (path_value (built_forest built) tests)
-leads_first built len places tests h e are = record {
-  found = tops (built_forest built);
-  are_nodes = λ node i. tops_in 0 (built_forest built) node i;
-  stand = are ∙ all_tops built len h e;
+pub leads_first : (table : Table) (len : ℕ) (places : List ℕ) (tests : List NodeTest) → IsTable table → len ≡ length table.rows.now → places ≡ tops_between (table_lines table) 0 len
+    → LeadsOn (table_forest table) places tests (path_value (table_forest table) tests)
+leads_first table len places tests h e are = record {
+  found = tops (table_forest table);
+  are_nodes = λ node i. tops_in 0 (table_forest table) node i;
+  stand = are ∙ all_tops table len h e;
   leads = refl;
 }
 
@@ -162,18 +162,18 @@ all_below f test (place ∷ places) h =
     (subst (All (λ p. p < count f)) first (below f (axis_step test node) (λ child i. children_in 0 f node child there.1 (in_filter (λ (c : Node Label). passes test c.label) (children node) child i))))
     (all_below f test places (λ k d lt. h (suc k) d (omega arith)))
 
-pub children_within : (built : Built) (test : NodeTest) (places found : List ℕ) (len : ℕ) → IsBuilt built → len ≡ length built.rows.items → All (λ place. place < length built.rows.items) places
-    → found ≡ flat_map (child_places (built_forest built) test) places → All (λ place. place < len) found
-children_within built test places found len h e within is = λ k d lt.
-    let f : Forest Label = built_forest built in
-    let b = all_below f test places (λ i x less. node_there built h (get_or places i x) (within i x less)) k d (omega (arith, ap length is)) in
-    omega (arith, b, ap (λ l. get_or l k d) is, rows_counted built h)
+pub children_within : (table : Table) (test : NodeTest) (places found : List ℕ) (len : ℕ) → IsTable table → len ≡ length table.rows.now → All (λ place. place < length table.rows.now) places
+    → found ≡ flat_map (child_places (table_forest table) test) places → All (λ place. place < len) found
+children_within table test places found len h e within is = λ k d lt.
+    let f : Forest Label = table_forest table in
+    let b = all_below f test places (λ i x less. node_there table h (get_or places i x) (within i x less)) k d (omega (arith, ap length is)) in
+    omega (arith, b, ap (λ l. get_or l k d) is, rows_counted table h)
 
-pub step_is : (built : Built) (test : NodeTest) (places found next : List ℕ) (len : ℕ) → IsBuilt built → len ≡ length built.rows.items → found ≡ flat_map (child_places (built_forest built) test) places
-    → next ≡ filter (is_place_among found) (range_with_len 0 len) → next ≡ step_places (built_forest built) test places
-step_is built test places found next len h e is sorted =
+pub step_is : (table : Table) (test : NodeTest) (places found next : List ℕ) (len : ℕ) → IsTable table → len ≡ length table.rows.now → found ≡ flat_map (child_places (table_forest table) test) places
+    → next ≡ filter (is_place_among found) (range_with_len 0 len) → next ≡ step_places (table_forest table) test places
+step_is table test places found next len h e is sorted =
     sorted ∙ ap (λ l. filter (is_place_among l) (range_with_len 0 len)) is
-    ∙ ap (λ n. filter (is_place_among (flat_map (child_places (built_forest built) test) places)) (range_with_len 0 n)) (e ∙ rows_counted built h)
+    ∙ ap (λ n. filter (is_place_among (flat_map (child_places (table_forest table) test) places)) (range_with_len 0 n)) (e ∙ rows_counted table h)
 
 leads_step : (f : Forest Label) (places next : List ℕ) (test : NodeTest) (rest tests : List NodeTest) (value : List (Node Label)) → tests ≡ test ∷ rest → next ≡ step_places f test places → LeadsOn f places tests value → LeadsOn f next rest value
 leads_step f places next test rest tests value e is l = record {
@@ -213,13 +213,13 @@ pub answer_is : (f : Forest Label) (tests : List NodeTest) (places : List ℕ) �
 answer_is f tests places e = ap (λ l. join_with_byte 10 (map (text_at f) l)) e ∙ ap (join_with_byte 10) (texts_are f (path_value f tests) (value_in f tests))
 
 -- the text of the node at a place
-pub text_there : (built : Built) (place : ℕ) (old new : List ℕ) (r : Result (Unit {0}) AllocError) → IsBuilt built → place < length built.rows.items
-    → OnOk r ((node : Node Label) → Contains (nodes (built_forest built)) node → node.place ≡ place → new ≡ old ++ node_text node) → OnOk r (new ≡ old ++ text_at (built_forest built) place)
-text_there built place old new (Ok x) h lt told =
-    let there = node_there built h place lt in
-    told there.0 (in_contains (nodes (built_forest built)) there.0 there.1) there.2
-    ∙ ap (λ l. old ++ l) (sym (text_at_is (built_forest built) there.0 there.1) ∙ ap (text_at (built_forest built)) there.2)
-text_there built place old new (Err e) h lt told = tt
+pub text_of_node : (f : Forest Label) (place : ℕ) (old new : List ℕ) (r : Result (Unit {0}) AllocError) → place < count f
+    → OnOk r ((node : Node Label) → Contains (nodes f) node → node.place ≡ place → new ≡ old ++ node_text node) → OnOk r (new ≡ old ++ text_at f place)
+text_of_node f place old new (Ok x) lt told =
+    let there = some_there 0 (count f) place (nodes f) (node_places 0 f) (omega arith) (omega arith) in
+    told there.0 (in_contains (nodes f) there.0 there.1) there.2
+    ∙ ap (λ l. old ++ l) (sym (text_at_is f there.0 there.1) ∙ ap (text_at f) there.2)
+text_of_node f place old new (Err e) lt told = tt
 
 -- ---- texts joined by LF
 

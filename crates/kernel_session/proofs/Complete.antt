@@ -4,9 +4,8 @@ use Rattle.std.specs.Prelude.{◌⊎◌}
 use Rattle.std.specs.Io.KnownBytes.{prepend_known}
 use Rattle.std.proofs.lemmas.List.Elements.{All-head, All-tail}
 use Rattle.outer_io.specs.Outer.{Rose}
-use Rattle.tree_model.specs.States.{State}
 use Rattle.kernel_session.specs.Lines.{IsOneLine}
-use Rattle.kernel_session.specs.Steps.{IsExit}
+use Rattle.kernel_session.specs.Steps.{Workspace, IsExit}
 use Rattle.kernel_session.specs.Sessions.{AreLines, AllGoOn, joined, Ran, IsShort, number_of}
 use Rattle.kernel_session.specs.declared.session.Status.{Status}
 use Rattle.kernel_session.specs.declared.session.Status.TheVariants.{Done, BadWords, ReadFault, WriteFault, NoMemory, TooManyBytes}
@@ -43,9 +42,9 @@ known : (left left' : Option (List ℕ)) (bytes front : List ℕ) → left ≡ S
 known left None bytes front e taken = cc
 known left (Some tail) bytes front e taken = (tail, cc)
 
-not_too_many : (state state' : State) (left left' : Option (List ℕ)) (reads reads' : ℕ) (old new : Option (List ℕ)) (writes writes' : ℕ) (bytes : List ℕ)
-    → Ran state state' left left' reads reads' old new writes writes' TooManyBytes → left ≡ Some bytes → IsShort bytes → ⊥
-not_too_many state state' left left' reads reads' old new writes writes' bytes r e short = by short
+not_too_many : (space space' : Workspace) (left left' : Option (List ℕ)) (reads reads' : ℕ) (old new : Option (List ℕ)) (writes writes' : ℕ) (bytes : List ℕ)
+    → Ran space space' left left' reads reads' old new writes writes' TooManyBytes → left ≡ Some bytes → IsShort bytes → ⊥
+not_too_many space space' left left' reads reads' old new writes writes' bytes r e short = by short
   where
     front : List ℕ
     front = joined r.lines ++ r.rest
@@ -63,13 +62,13 @@ number_done : (any : Bool) → (number_of (Done any) ≡ 0) ⊎ (number_of (Done
 number_done true = inr (inl refl)
 number_done false = inl refl
 
-pub served_whole : (state state' : State) (left left' : Option (List ℕ)) (reads reads' : ℕ) (old new : Option (List ℕ)) (writes writes' : ℕ) (bytes : List ℕ) (status : Status)
-    → Ran state state' left left' reads reads' old new writes writes' status → status ≢ BadWords → left ≡ Some bytes → IsShort bytes → (Rose reads reads' → ⊥) → (Rose writes writes' → ⊥)
+pub served_whole : (space space' : Workspace) (left left' : Option (List ℕ)) (reads reads' : ℕ) (old new : Option (List ℕ)) (writes writes' : ℕ) (bytes : List ℕ) (status : Status)
+    → Ran space space' left left' reads reads' old new writes writes' status → status ≢ BadWords → left ≡ Some bytes → IsShort bytes → (Rose reads reads' → ⊥) → (Rose writes writes' → ⊥)
     → (number_of status ≡ 0) ⊎ (number_of status ≡ 1) ⊎ (number_of status ≡ 5)
-served_whole state state' left left' reads reads' old new writes writes' bytes (Done any) r known_words e short no_read no_write = number_done any
-served_whole state state' left left' reads reads' old new writes writes' bytes BadWords r known_words e short no_read no_write = absurd (known_words refl)
-served_whole state state' left left' reads reads' old new writes writes' bytes ReadFault r known_words e short no_read no_write = absurd (no_read r.ended.0)
-served_whole state state' left left' reads reads' old new writes writes' bytes WriteFault r known_words e short no_read no_write = absurd (no_write r.ended.0)
-served_whole state state' left left' reads reads' old new writes writes' bytes NoMemory r known_words e short no_read no_write = inr (inr refl)
-served_whole state state' left left' reads reads' old new writes writes' bytes TooManyBytes r known_words e short no_read no_write =
-    absurd (not_too_many state state' left left' reads reads' old new writes writes' bytes r e short)
+served_whole space space' left left' reads reads' old new writes writes' bytes (Done any) r known_words e short no_read no_write = number_done any
+served_whole space space' left left' reads reads' old new writes writes' bytes BadWords r known_words e short no_read no_write = absurd (known_words refl)
+served_whole space space' left left' reads reads' old new writes writes' bytes ReadFault r known_words e short no_read no_write = absurd (no_read r.ended.0)
+served_whole space space' left left' reads reads' old new writes writes' bytes WriteFault r known_words e short no_read no_write = absurd (no_write r.ended.0)
+served_whole space space' left left' reads reads' old new writes writes' bytes NoMemory r known_words e short no_read no_write = inr (inr refl)
+served_whole space space' left left' reads reads' old new writes writes' bytes TooManyBytes r known_words e short no_read no_write =
+    absurd (not_too_many space space' left left' reads reads' old new writes writes' bytes r e short)

@@ -13,3 +13,8 @@ pub mod Siblings
 pub mod Nodes
 pub mod ChildSteps
 pub mod Queries
+pub mod Slashes
+pub mod Reading
+pub mod Databases
+pub mod DocumentPaths
+pub mod FileFaults

@@ -15,18 +15,18 @@ use Rattle.tree_model.specs.declared.row.Row.{Row}
 use Rattle.tree_model.specs.declared.text.Name.{Name}
 use Rattle.tree_model.proofs.Standing.{IsIn, node_places}
 use Rattle.tree_model.proofs.Tables.{placed_at}
-use Rattle.doc_import.specs.Imported.{built_lines}
-use Rattle.doc_import.specs.declared.reading.Built.{Built}
+use Rattle.kernel_session.specs.Tables.{table_lines}
+use Rattle.kernel_session.specs.declared.table.Table.{Table}
 use Rattle.kernel_session.proofs.DocumentOrder.{differs}
 use Rattle.kernel_session.proofs.Siblings.{turn}
 use Rattle.kernel_session.specs.Places.{places_of, node_at, child_places, text_at, AreTrees, Turn, passes_at, first_passes}
 
 -- ---- rows and their lines
 
-pub line_at : (built : Built) (at : ℕ) (row : Row) → at < length built.rows.items → row ≡ get_or built.rows.items at row → get_or (built_lines built) at (line_of built.names built.heap row) ≡ line_of built.names built.heap row
-line_at built at row lt is =
-    let line : Row → Line Label = line_of built.names built.heap in
-    get_or-map line built.rows.items at row (line row) lt ∙ ap line (sym is)
+pub line_at : (table : Table) (at : ℕ) (row : Row) → at < length table.rows.now → row ≡ get_or table.rows.now at row → get_or (table_lines table) at (line_of table.names.now table.heap.now row) ≡ line_of table.names.now table.heap.now row
+line_at table at row lt is =
+    let line : Row → Line Label = line_of table.names.now table.heap.now in
+    get_or-map line table.rows.now at row (line row) lt ∙ ap line (sym is)
 
 pub row_named : (names : List Name) (values : List ℕ) (rows : List Row) → ArePlaced names values rows → (at : ℕ) (row : Row) → at < length rows → row ≡ get_or rows at row → row.name < length names
 row_named names values rows placed at row lt is = subst (λ (r : Row). r.name < length names) (sym is) (placed_at names values rows at row placed lt).0
@@ -36,19 +36,19 @@ no_value (named local) names values row = refl
 no_value texts names values row = refl
 
 -- whether the node of a row passes
-pub row_passes : (built : Built) (test : NodeTest) (at : ℕ) (row : Row) → at < length built.rows.items → row ≡ get_or built.rows.items at row → passes_at test (built_lines built) at ≡ passes test (label_of built.names [] row)
+pub row_passes : (table : Table) (test : NodeTest) (at : ℕ) (row : Row) → at < length table.rows.now → row ≡ get_or table.rows.now at row → passes_at test (table_lines table) at ≡ passes test (label_of table.names.now [] row)
 unfolding passes_at
-row_passes built test at row lt is =
-    let line : Row → Line Label = line_of built.names built.heap in
-    let within : at < length (built_lines built) = omega (arith, length-map built.rows.items line) in
-    ap (first_passes test) (drop-cons (built_lines built) at (line row) within)
-    ∙ ap (λ (l : Line Label). passes test l.label) (line_at built at row lt is)
-    ∙ no_value test built.names built.heap row
+row_passes table test at row lt is =
+    let line : Row → Line Label = line_of table.names.now table.heap.now in
+    let within : at < length (table_lines table) = omega (arith, length-map table.rows.now line) in
+    ap (first_passes test) (drop-cons (table_lines table) at (line row) within)
+    ∙ ap (λ (l : Line Label). passes test l.label) (line_at table at row lt is)
+    ∙ no_value test table.names.now table.heap.now row
 
 -- a tree is passed by the size in its row
-pub row_turn : (built : Built) (at end : ℕ) (row : Row) → at < end → end ≤ length built.rows.items → AreTrees (built_lines built) at end → row ≡ get_or built.rows.items at row → Turn (built_lines built) at end (at + row.size)
-row_turn built at end row lt within trees is =
-    turn (built_lines built) at end trees lt (line_of built.names built.heap row) (sym (line_at built at row (omega arith) is))
+pub row_turn : (table : Table) (at end : ℕ) (row : Row) → at < end → end ≤ length table.rows.now → AreTrees (table_lines table) at end → row ≡ get_or table.rows.now at row → Turn (table_lines table) at end (at + row.size)
+row_turn table at end row lt within trees is =
+    turn (table_lines table) at end trees lt (line_of table.names.now table.heap.now row) (sym (line_at table at row (omega arith) is))
 
 -- ---- the node at a place
 

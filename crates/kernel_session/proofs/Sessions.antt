@@ -7,9 +7,8 @@ use Rattle.std.specs.Bool.{Decides}
 use Rattle.std.proofs.lemmas.Bool.{false≢true}
 use Rattle.outer_io.specs.Outer.{Rose}
 use Rattle.kernel_session.specs.Lines.{IsOneLine, ReadsLine, ending}
-use Rattle.tree_model.specs.States.{State}
 use Rattle.kernel_session.specs.declared.command.Options.{Options}
-use Rattle.kernel_session.specs.Steps.{IsAnswered, IsExit, Right}
+use Rattle.kernel_session.specs.Steps.{Workspace, IsAnswered, IsExit, Right}
 use Rattle.kernel_session.specs.Replies.{Answer, text_if}
 use Rattle.kernel_session.specs.Sessions.{no_options, joined, AreLines, AllGoOn, texts, is_refusal, has_refusal, HasReplied, Ran, HasServed, HasAnswered}
 use Rattle.kernel_session.specs.declared.session.Served.{Served}
@@ -31,12 +30,12 @@ all_go_on (k ∷ ls) l h goes = (h.0, all_go_on ls l h.1 goes)
 goes_on : (ends : Bool) (l : List ℕ) → ends ≡ false → Decides ends (IsExit l) → (¬ IsExit l)
 goes_on ends l never d = λ h. false≢true (sym never ∙ d.1 h)
 
-right_more : (options : Options) (state mid state' : State) (ls : List (List ℕ)) (answers : List (Option Answer)) (l : List ℕ) (answer : Option Answer)
-    → Right options state ls answers mid → IsAnswered options mid l answer state' → Right options state (ls ++ l ∷ []) (answers ++ answer ∷ []) state'
-right_more options state mid state' [] [] l answer h is = (state', subst (λ s. IsAnswered options s l answer state') h is, refl)
-right_more options state mid state' [] (a ∷ more) l answer h is = absurd h
-right_more options state mid state' (k ∷ ls) [] l answer h is = absurd h
-right_more options state mid state' (k ∷ ls) (a ∷ more) l answer h is = (h.0, h.1, right_more options h.0 mid state' ls more l answer h.2 is)
+right_more : (options : Options) (space mid space' : Workspace) (ls : List (List ℕ)) (answers : List (Option Answer)) (l : List ℕ) (answer : Option Answer)
+    → Right options space ls answers mid → IsAnswered options mid l answer space' → Right options space (ls ++ l ∷ []) (answers ++ answer ∷ []) space'
+right_more options space mid space' [] [] l answer h is = (space', subst (λ s. IsAnswered options s l answer space') h is, refl)
+right_more options space mid space' [] (a ∷ more) l answer h is = absurd h
+right_more options space mid space' (k ∷ ls) [] l answer h is = absurd h
+right_more options space mid space' (k ∷ ls) (a ∷ more) l answer h is = (h.0, h.1, right_more options h.0 mid space' ls more l answer h.2 is)
 
 joined_more : (ls : List (List ℕ)) (l : List ℕ) → joined (ls ++ l ∷ []) ≡ joined ls ++ (l ++ 10 ∷ [])
 joined_more ls l = flat_map-append (λ x. x ++ 10 ∷ []) ls (l ∷ []) ∙ ap (λ x. joined ls ++ x) (append-nil (l ++ 10 ∷ []))
@@ -55,11 +54,11 @@ written_more : (old mid new : Option (List ℕ)) (answers : List (Option Answer)
 written_more old mid new answers answer so more =
     more ∙ ap (λ x. append_known x (text_if answer)) so ∙ append_more old (texts answers) (text_if answer) ∙ ap (append_known old) (sym (texts_more answers answer))
 
-abbrev replied_more : (state mid state' : State) (ls : List (List ℕ)) (l : List ℕ) (answer : Option Answer) (old part new : Option (List ℕ))
-    → HasReplied state mid ls old part → IsAnswered no_options mid l answer state' → new ≡ append_known part (text_if answer) → HasReplied state state' (ls ++ l ∷ []) old new
-replied_more state mid state' ls l answer old part new h is so = record {
+abbrev replied_more : (space mid space' : Workspace) (ls : List (List ℕ)) (l : List ℕ) (answer : Option Answer) (old part new : Option (List ℕ))
+    → HasReplied space mid ls old part → IsAnswered no_options mid l answer space' → new ≡ append_known part (text_if answer) → HasReplied space space' (ls ++ l ∷ []) old new
+replied_more space mid space' ls l answer old part new h is so = record {
   answers = h.answers ++ answer ∷ [];
-  right = right_more no_options state mid state' ls h.answers l answer h.right is;
+  right = right_more no_options space mid space' ls h.answers l answer h.right is;
   written = written_more old part new h.answers answer h.written so;
 }
 
@@ -67,8 +66,8 @@ replied_more state mid state' ls l answer old part new h is so = record {
 taken_more : (left stream stream' : Option (List ℕ)) (ls : List (List ℕ)) (bytes : List ℕ) → left ≡ prepend_known (joined ls) stream → stream ≡ prepend_known bytes stream' → left ≡ prepend_known (joined ls ++ bytes) stream'
 taken_more left stream stream' ls bytes so more = so ∙ ap (prepend_known (joined ls)) more ∙ sym (prepend_append (joined ls) bytes stream')
 
-pub served_none : (state : State) (left : Option (List ℕ)) (old : Option (List ℕ)) (reads writes room : ℕ) → room ≡ 2 ^ 32 → HasServed state state left (prepend_known [] left) reads reads room old old writes writes false
-served_none state left old reads writes room is = record {
+pub served_none : (space : Workspace) (left : Option (List ℕ)) (old : Option (List ℕ)) (reads writes room : ℕ) → room ≡ 2 ^ 32 → HasServed space space left (prepend_known [] left) reads reads room old old writes writes false
+served_none space left old reads writes room is = record {
   lines = [];
   each = tt;
   go_on = tt;
@@ -80,16 +79,16 @@ served_none state left old reads writes room is = record {
   writes_later = omega arith;
 }
 
-pub served_more : (state mid state' : State) (left stream stream' : Option (List ℕ)) (reads reads' reads'' room room' : ℕ) (old part new : Option (List ℕ)) (writes writes' writes'' : ℕ) (refused : Bool) (served : Served) (line : List ℕ) (long : Bool)
-    → HasServed state mid left stream reads reads' room old part writes writes' refused → ReadsLine stream stream' reads' reads'' room room' line long Newline → HasAnswered mid state' line long refused part new writes' writes'' (Ok served)
-    → served.ends ≡ false → HasServed state state' left stream' reads reads'' room' old new writes writes'' served.refused
-served_more state mid state' left stream stream' reads reads' reads'' room room' old part new writes writes' writes'' refused served line long h r w never = record {
+pub served_more : (space mid space' : Workspace) (left stream stream' : Option (List ℕ)) (reads reads' reads'' room room' : ℕ) (old part new : Option (List ℕ)) (writes writes' writes'' : ℕ) (refused : Bool) (served : Served) (line : List ℕ) (long : Bool)
+    → HasServed space mid left stream reads reads' room old part writes writes' refused → ReadsLine stream stream' reads' reads'' room room' line long Newline → HasAnswered mid space' line long refused part new writes' writes'' (Ok served)
+    → served.ends ≡ false → HasServed space space' left stream' reads reads'' room' old new writes writes'' served.refused
+served_more space mid space' left stream stream' reads reads' reads'' room room' old part new writes writes' writes'' refused served line long h r w never = record {
   lines = h.lines ++ r.l ∷ [];
   each = lines_more h.lines r.l h.each r.one_line;
   go_on = all_go_on h.lines r.l h.go_on (goes_on served.ends r.l never (w.ok.2 r.l r.kept));
   taken = taken_more left stream stream' h.lines (r.l ++ 10 ∷ []) h.taken r.consumed ∙ ap (λ x. prepend_known x stream') (sym (joined_more h.lines r.l));
   counted = omega (arith, h.counted, r.counted, ap length (joined_more h.lines r.l), length-append (joined h.lines) (r.l ++ 10 ∷ []));
-  replied = replied_more state mid state' h.lines r.l w.answer old part new h.replied (w.is r.l r.kept) w.ok.0;
+  replied = replied_more space mid space' h.lines r.l w.answer old part new h.replied (w.is r.l r.kept) w.ok.0;
   refusal = w.ok.1 ∙ ap (λ x. x || is_refusal w.answer) h.refusal ∙ sym (refusal_more h.replied.answers w.answer);
   reads_later = omega (arith, h.reads_later, r.later);
   writes_later = omega (arith, h.writes_later, w.later);
@@ -102,9 +101,9 @@ all_taken : (left stream left' : Option (List ℕ)) (ls : List (List ℕ)) (byte
 all_taken left stream left' ls bytes pending so more =
     taken_more left stream (prepend_known pending left') ls bytes so more ∙ sym (prepend_append (joined ls ++ bytes) pending left') ∙ ap (λ x. prepend_known x left') (append_assoc (joined ls) bytes pending)
 
-pub no_memory : (state mid : State) (left stream left' : Option (List ℕ)) (reads reads' reads'' room : ℕ) (old new : Option (List ℕ)) (writes writes' : ℕ) (refused : Bool) (bytes pending : List ℕ)
-    → HasServed state mid left stream reads reads' room old new writes writes' refused → stream ≡ prepend_known bytes (prepend_known pending left') → Ran state mid left left' reads reads'' old new writes writes' NoMemory
-no_memory state mid left stream left' reads reads' reads'' room old new writes writes' refused bytes pending h more = record {
+pub no_memory : (space mid : Workspace) (left stream left' : Option (List ℕ)) (reads reads' reads'' room : ℕ) (old new : Option (List ℕ)) (writes writes' : ℕ) (refused : Bool) (bytes pending : List ℕ)
+    → HasServed space mid left stream reads reads' room old new writes writes' refused → stream ≡ prepend_known bytes (prepend_known pending left') → Ran space mid left left' reads reads'' old new writes writes' NoMemory
+no_memory space mid left stream left' reads reads' reads'' room old new writes writes' refused bytes pending h more = record {
   lines = h.lines;
   rest = bytes ++ pending;
   each = h.each;
@@ -113,10 +112,10 @@ no_memory state mid left stream left' reads reads' reads'' room old new writes w
   ended = h.replied;
 }
 
-pub write_fault : (state mid state' : State) (left stream left' : Option (List ℕ)) (reads reads' reads'' room room' : ℕ) (old part new : Option (List ℕ)) (writes writes' writes'' : ℕ) (refused : Bool) (line : List ℕ) (long : Bool) (end : LineEnd) (pending : List ℕ) (e : WriteFailed)
-    → HasServed state mid left stream reads reads' room old part writes writes' refused → ReadsLine stream (prepend_known pending left') reads' reads'' room room' line long end → HasAnswered mid state' line long refused part new writes' writes'' (Err e)
-    → Ran state state' left left' reads reads'' old new writes writes'' WriteFault
-write_fault state mid state' left stream left' reads reads' reads'' room room' old part new writes writes' writes'' refused line long end pending e h r w = record {
+pub write_fault : (space mid space' : Workspace) (left stream left' : Option (List ℕ)) (reads reads' reads'' room room' : ℕ) (old part new : Option (List ℕ)) (writes writes' writes'' : ℕ) (refused : Bool) (line : List ℕ) (long : Bool) (end : LineEnd) (pending : List ℕ) (e : WriteFailed)
+    → HasServed space mid left stream reads reads' room old part writes writes' refused → ReadsLine stream (prepend_known pending left') reads' reads'' room room' line long end → HasAnswered mid space' line long refused part new writes' writes'' (Err e)
+    → Ran space space' left left' reads reads'' old new writes writes'' WriteFault
+write_fault space mid space' left stream left' reads reads' reads'' room room' old part new writes writes' writes'' refused line long end pending e h r w = record {
   lines = h.lines;
   rest = (r.l ++ ending end) ++ pending;
   each = h.each;
@@ -134,10 +133,10 @@ taken_whole : (left stream left' : Option (List ℕ)) (ls : List (List ℕ)) (l 
 taken_whole left stream left' ls l pending so more none =
     all_taken left stream left' ls (l ++ []) pending so more ∙ ap (λ x. prepend_known (joined ls ++ x) left') (ap (λ x. (l ++ []) ++ x) none ∙ append-nil (l ++ []) ∙ append-nil l)
 
-pub done : (state mid state' : State) (left stream left' : Option (List ℕ)) (reads reads' reads'' room room' : ℕ) (old part new : Option (List ℕ)) (writes writes' writes'' : ℕ) (refused : Bool) (served : Served) (line : List ℕ) (long : Bool) (pending : List ℕ)
-    → HasServed state mid left stream reads reads' room old part writes writes' refused → ReadsLine stream (prepend_known pending left') reads' reads'' room room' line long EndOfScript → pending ≡ [] → HasAnswered mid state' line long refused part new writes' writes'' (Ok served)
-    → Ran state state' left left' reads reads'' old new writes writes'' (Done served.refused)
-done state mid state' left stream left' reads reads' reads'' room room' old part new writes writes' writes'' refused served line long pending h r none w = record {
+pub done : (space mid space' : Workspace) (left stream left' : Option (List ℕ)) (reads reads' reads'' room room' : ℕ) (old part new : Option (List ℕ)) (writes writes' writes'' : ℕ) (refused : Bool) (served : Served) (line : List ℕ) (long : Bool) (pending : List ℕ)
+    → HasServed space mid left stream reads reads' room old part writes writes' refused → ReadsLine stream (prepend_known pending left') reads' reads'' room room' line long EndOfScript → pending ≡ [] → HasAnswered mid space' line long refused part new writes' writes'' (Ok served)
+    → Ran space space' left left' reads reads'' old new writes writes'' (Done served.refused)
+done space mid space' left stream left' reads reads' reads'' room room' old part new writes writes' writes'' refused served line long pending h r none w = record {
   lines = h.lines;
   rest = r.l;
   each = h.each;
@@ -147,17 +146,17 @@ done state mid state' left stream left' reads reads' reads'' room room' old part
     subst IsAtEnd (ap (λ x. prepend_known x left') none ∙ prepend_nil left') r.ended,
     r.one_line,
     (
-      replied_more state mid state' h.lines r.l w.answer old part new h.replied (w.is r.l r.kept) w.ok.0,
+      replied_more space mid space' h.lines r.l w.answer old part new h.replied (w.is r.l r.kept) w.ok.0,
       w.ok.1 ∙ ap (λ x. x || is_refusal w.answer) h.refusal ∙ sym (refusal_more h.replied.answers w.answer),
     ),
   );
 }
 
 -- a line that ends the session
-pub done_by_exit : (state mid state' : State) (left stream left' : Option (List ℕ)) (reads reads' reads'' room room' : ℕ) (old part new : Option (List ℕ)) (writes writes' writes'' : ℕ) (refused : Bool) (served : Served) (line : List ℕ) (long : Bool) (pending : List ℕ)
-    → HasServed state mid left stream reads reads' room old part writes writes' refused → ReadsLine stream (prepend_known pending left') reads' reads'' room room' line long Newline → HasAnswered mid state' line long refused part new writes' writes'' (Ok served)
-    → served.ends ≡ true → Ran state state' left left' reads reads'' old new writes writes'' (Done served.refused)
-done_by_exit state mid state' left stream left' reads reads' reads'' room room' old part new writes writes' writes'' refused served line long pending h r w last = record {
+pub done_by_exit : (space mid space' : Workspace) (left stream left' : Option (List ℕ)) (reads reads' reads'' room room' : ℕ) (old part new : Option (List ℕ)) (writes writes' writes'' : ℕ) (refused : Bool) (served : Served) (line : List ℕ) (long : Bool) (pending : List ℕ)
+    → HasServed space mid left stream reads reads' room old part writes writes' refused → ReadsLine stream (prepend_known pending left') reads' reads'' room room' line long Newline → HasAnswered mid space' line long refused part new writes' writes'' (Ok served)
+    → served.ends ≡ true → Ran space space' left left' reads reads'' old new writes writes'' (Done served.refused)
+done_by_exit space mid space' left stream left' reads reads' reads'' room room' old part new writes writes' writes'' refused served line long pending h r w last = record {
   lines = h.lines;
   rest = (r.l ++ 10 ∷ []) ++ pending;
   each = h.each;
@@ -170,7 +169,7 @@ done_by_exit state mid state' left stream left' reads reads' reads'' room room' 
     r.one_line,
     (w.ok.2 r.l r.kept).0 last,
     (
-      replied_more state mid state' h.lines r.l w.answer old part new h.replied (w.is r.l r.kept) w.ok.0,
+      replied_more space mid space' h.lines r.l w.answer old part new h.replied (w.is r.l r.kept) w.ok.0,
       w.ok.1 ∙ ap (λ x. x || is_refusal w.answer) h.refusal ∙ sym (refusal_more h.replied.answers w.answer),
     ),
   );

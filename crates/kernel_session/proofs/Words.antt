@@ -1,13 +1,16 @@
 -- The words of a line, and the numbers among them.
-use Rattle.std.proofs.Common.{◌≡◌, ℕ, ◌^◌, ◌<◌, ◌≤◌, Bool, true, false, cond, ◌==◌, ◌&&◌, nat_le, nat_lt, List, [], ◌∷◌, length, Some, None, refl, sym, ap, arith}
+use Rattle.std.proofs.Common.{◌≡◌, ℕ, ◌^◌, ◌<◌, ◌≤◌, Bool, true, false, cond, not, ◌==◌, ◌&&◌, nat_le, nat_lt, List, [], ◌∷◌, length, Some, None, refl, sym, ap, ◌∙◌, arith}
 use borrow.Author.Tests.{ltb-false}
 use Rattle.std.proofs.lemmas.List.Sums.{prefix_len-le-length}
 use Rattle.std.proofs.lemmas.Bool.{leb-true}
 use Rattle.std.proofs.Math.Nat.{pow-le-pow_right}
 use Rattle.std.specs.List.{prefix_len, position, list_all, zip}
 use Rattle.std.specs.Char.{to_ascii_lowercase, is_ascii_digit}
-use Rattle.std.proofs.lemmas.Bool.{and_parts}
-use Rattle.kernel_session.specs.Commands.{is_blank, is_no_blank, is_word, is_number}
+use Rattle.std.proofs.lemmas.Bool.{and_parts, and_from}
+use Rattle.std.specs.Str.{IsUtf8, is_utf8}
+use Rattle.std.proofs.lemmas.Str.{IsUtf8-from_is_utf8, is_utf8-from_IsUtf8}
+use Rattle.tree_model.specs.Sound.{is_empty}
+use Rattle.kernel_session.specs.Commands.{is_blank, is_no_blank, is_word, is_number, is_file_name}
 
 -- a line with no blank is one word
 pub one_word : (line : List ℕ) → None ≡ position is_blank line → length line ≡ prefix_len is_no_blank line
@@ -33,3 +36,22 @@ number_len word h =
 -- fewer digits than 9 leave room for one more
 pub room_for_digit : (n i : ℕ) → n < 10 ^ i → i < 9 → n < 100000000
 room_for_digit n i h few = omega (arith, pow-le-pow_right {n = 10} (omega arith) {i = i} {j = 8} (omega arith))
+
+-- ---- the name of a file
+
+pub file_word : (word : List ℕ) (is : Bool) → is ≡ (not (is_empty word) && nat_le (length word) 4096 && list_all is_no_blank word) → is ≡ true → IsUtf8 word → is_file_name word ≡ true
+file_word word is same h u = and_from (not (is_empty word) && nat_le (length word) 4096 && list_all is_no_blank word) (is_utf8 word) (sym same ∙ h) (is_utf8-from_IsUtf8 word u)
+
+and_false : (a : Bool) → (a && false) ≡ false
+and_false true = refl
+and_false false = refl
+
+pub no_file_word : (word : List ℕ) → (¬ IsUtf8 word) → is_file_name word ≡ false
+no_file_word word u = by (is_utf8 word) refl
+  where
+    first : Bool
+    first = not (is_empty word) && nat_le (length word) 4096 && list_all is_no_blank word
+
+    by : (b : Bool) → is_utf8 word ≡ b → (first && is_utf8 word) ≡ false
+    by true e = absurd (u (IsUtf8-from_is_utf8 word e))
+    by false e = ap (λ b. first && b) e ∙ and_false first

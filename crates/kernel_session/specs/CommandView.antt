@@ -1,19 +1,33 @@
 -- A command of the code, without where it lies in memory.
 use Rattle.std.specs.Prelude.{◌≡◌, ◌⊎◌, ℕ, ◌^◌, ◌<◌, ◌≤◌, List, length, codes, Option, Some, None, Result, Ok, Err}
+use Rattle.std.specs.Option.{option_map}
 use Rattle.std.specs.Str.{IsUtf8}
 use Rattle.tree_model.specs.CodeTexts.{text_of_code}
 use Rattle.tree_model.specs.declared.code.Refusal.{Refusal}
 use Rattle.tree_model.specs.declared.code.Refusal.TheVariants as refusal
-use Rattle.kernel_session.specs.Commands.{Form, table, create, storage, list, query, exit, not_built, no_form, form_of, trimmed}
+use Rattle.kernel_session.specs.Commands.{Input, text, file, Form, table, create, storage, list, query, export, exit, not_built, no_form, form_of, trimmed}
 use Rattle.kernel_session.specs.declared.command.Command.{Command}
 use Rattle.kernel_session.specs.declared.command.Command.TheVariants as command
+use Rattle.kernel_session.specs.declared.input.Input.{Input as CodeInput}
+use Rattle.kernel_session.specs.declared.input.Input.TheVariants as input
+use Rattle.kernel_session.specs.declared.input.NewDocument.{NewDocument}
+use Rattle.kernel_session.specs.declared.input.NewDocument.TheVariants as document
+
+abbrev pub input_of : CodeInput → Input
+input_of (input.Text xml) = text xml
+input_of (input.File name) = file name
+
+abbrev pub input_of_document : NewDocument → Input
+input_of_document (document.Text xml) = text xml
+input_of_document (document.File name) = file name
 
 abbrev pub form_of_command : Command → Form
-form_of_command (command.Table xml) = table xml
-form_of_command (command.CreateDb name xml) = create name.now xml
+form_of_command (command.Table given) = table (input_of given)
+form_of_command (command.CreateDb name given) = create name.now (option_map input_of_document given)
 form_of_command (command.InfoStorage range) = storage range
 form_of_command command.List = list
-form_of_command (command.Query text) = query text
+form_of_command (command.Query words) = query words
+form_of_command (command.Export path name) = export path name
 form_of_command command.Exit = exit
 form_of_command command.NotBuilt = not_built
 

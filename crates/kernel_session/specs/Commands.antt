@@ -1,9 +1,10 @@
 -- The commands that lines hold.
 use Rattle.std.specs.Prelude.{◌≡◌, ℕ, ◌+◌, ◌*◌, ◌-◌, Bool, ◌==◌, ◌||◌, ◌&&◌, not, nat_le, map, if◌then◌else◌, List, [], ◌∷◌, length, take, drop, codes, slice_index, Option, Some, None}
 use Rattle.std.specs.List.{prefix_len, suffix_len, list_any, list_all}
-use Rattle.std.specs.Str.{bytes_eq}
+use Rattle.std.specs.Str.{bytes_eq, is_utf8}
 use Rattle.std.specs.Char.{to_ascii_lowercase, is_ascii_digit}
-use Rattle.tree_model.specs.Sound.{is_path}
+use Rattle.tree_model.specs.Sound.{is_empty, is_path}
+use Rattle.tree_model.specs.States.{default_path}
 
 -- a space or a tab
 abbrev pub is_blank : ℕ → Bool
@@ -43,7 +44,7 @@ is_among words bytes = list_any (λ word. is_word word bytes) words
 -- the words with which the forms that aren't built yet begin
 abbrev pub later_words : List (List ℕ)
 later_words =
-    codes "check" ∷ codes "open" ∷ codes "close" ∷ codes "add" ∷ codes "delete" ∷ codes "replace" ∷ codes "rename" ∷ codes "explain" ∷ codes "optimize" ∷ codes "export" ∷ []
+    codes "check" ∷ codes "open" ∷ codes "close" ∷ codes "add" ∷ codes "delete" ∷ codes "replace" ∷ codes "rename" ∷ codes "explain" ∷ codes "optimize" ∷ []
 
 abbrev pub words_behind_drop : List (List ℕ)
 words_behind_drop = codes "db" ∷ codes "index" ∷ []
@@ -56,9 +57,9 @@ abbrev pub is_later_form : List ℕ → List ℕ → Bool
 is_later_form first second =
     is_among later_words first || (is_word (codes "create") first && is_word (codes "index") second) || (is_word (codes "drop") first && is_among words_behind_drop second) || (is_word (codes "info") first && is_among words_behind_info second)
 
--- a word of at most 4096 bytes
+-- a word of at most 4096 bytes, in UTF-8
 abbrev pub is_file_name : List ℕ → Bool
-is_file_name input = nat_le (length input) 4096 && list_all is_no_blank input
+is_file_name word = not (is_empty word) && nat_le (length word) 4096 && list_all is_no_blank word && is_utf8 word
 
 -- XML text begins with <
 abbrev pub BeginsXml : List ℕ → Type 0
@@ -81,13 +82,24 @@ abbrev pub number_from : ℕ → List ℕ → ℕ
 number_from n [] = n
 number_from n (c ∷ word) = number_from (n * 10 + (c - 48)) word
 
+-- what a command reads a document from: XML text, or the file of a name
+pub data Input : Type 0 where
+  text : (xml : List ℕ) → Input
+  file : (name : List ℕ) → Input
+
+-- the path of a document that is read for a database of this name
+abbrev pub path_of_input : List ℕ → Input → List ℕ
+path_of_input name (text xml) = default_path name
+path_of_input name (file f) = last_part f
+
 -- a command as it is read
 pub data Form : Type 0 where
-  table : (xml : List ℕ) → Form
-  create : (name : List ℕ) → (xml : Option (List ℕ)) → Form
+  table : (input : Input) → Form
+  create : (name : List ℕ) → (input : Option Input) → Form
   storage : (range : Option (ℕ × ℕ)) → Form
   list : Form
-  query : (text : List ℕ) → Form
+  query : (words : List ℕ) → Form
+  export : (path : List ℕ) → (name : List ℕ) → Form
   exit : Form
   not_built : Form
   no_form : Form
@@ -95,12 +107,12 @@ pub data Form : Type 0 where
 -- the input of TABLE: XML text begins with <, else it is the name of a file
 abbrev pub input_form : List ℕ → Form
 input_form [] = no_form
-input_form (c ∷ input) = if c == 60 then table (c ∷ input) else if is_file_name (c ∷ input) then not_built else no_form
+input_form (c ∷ input) = if c == 60 then table (text (c ∷ input)) else if is_file_name (c ∷ input) then table (file (c ∷ input)) else no_form
 
 -- CREATE DB with this name, and with nothing or an input behind it
 abbrev pub named_form : List ℕ → List ℕ → Form
 named_form name [] = create name None
-named_form name (c ∷ input) = if c == 60 then create name (Some (c ∷ input)) else if is_document_file (c ∷ input) then not_built else no_form
+named_form name (c ∷ input) = if c == 60 then create name (Some (text (c ∷ input))) else if is_document_file (c ∷ input) then create name (Some (file (c ∷ input))) else no_form
 
 -- what stands behind CREATE DB: a name, and perhaps an input
 abbrev pub create_form : List ℕ → Form
@@ -125,6 +137,10 @@ abbrev pub query_form : List ℕ → Form
 query_form [] = no_form
 query_form (c ∷ words) = query (c ∷ words)
 
+-- EXPORT, the path of a document and the name of a file
+abbrev pub export_form : List ℕ → Form
+export_form words = if is_path (first_word words) && is_file_name (behind_word words) then export (first_word words) (behind_word words) else no_form
+
 abbrev pub exit_form : List ℕ → Form
 exit_form [] = exit
 exit_form (c ∷ words) = no_form
@@ -137,7 +153,7 @@ two_word_form first second words =
 -- a form by its first word, with what stands behind it
 abbrev pub form_by : List ℕ → List ℕ → Form
 form_by first words =
-    if is_word (codes "table") first then input_form words else if is_word (codes "list") first then list_form words else if is_word (codes "exit") first then exit_form words else if is_word (codes "xquery") first then query_form words else two_word_form first (first_word words) (behind_word words)
+    if is_word (codes "table") first then input_form words else if is_word (codes "list") first then list_form words else if is_word (codes "exit") first then exit_form words else if is_word (codes "xquery") first then query_form words else if is_word (codes "export") first then export_form words else two_word_form first (first_word words) (behind_word words)
 
 -- the form of a line without blanks at its ends
 abbrev pub form_of : List ℕ → Form

@@ -1,23 +1,18 @@
--- What a kernel keeps of its databases.
-use Rattle.std.specs.Prelude.{◌≡◌, ◌⊎◌, ◌<◌, ◌^◌, ℕ, Bool, true, List, length, map, codes, Option, Some}
-use Rattle.tree_model.specs.Forest.{Forest, top_count}
-use Rattle.tree_model.specs.Labels.{Label, with_path}
-use Rattle.tree_model.specs.Reads.{Reads, read_as}
-use Rattle.tree_model.specs.Sound.{IsSound, are_distinct}
-use Rattle.tree_model.specs.States.{Base}
+-- What a kernel keeps of its databases, and what it reads for them.
+use Rattle.std.specs.Prelude.{◌≡◌, ◌⊎◌, ◌<◌, ◌^◌, ℕ, Bool, true, false, List, length, map, codes, Option, Some}
+use Rattle.std.specs.List.{All}
+use Rattle.outer_io.specs.Files.{Seen}
+use Rattle.tree_model.specs.Sound.{are_distinct}
+use Rattle.tree_model.specs.States.{Base, new_base}
+use Rattle.tree_model.specs.Labels.{with_path}
+use Rattle.tree_model.specs.XmlReads.{ReadsXml, as_tree}
 use Rattle.tree_model.specs.declared.code.Refusal.{Refusal}
 use Rattle.doc_import.specs.Imported.{IsBuilt, built_forest}
-use Rattle.doc_import.specs.declared.reading.Built.{Built}
-use Rattle.doc_import.specs.declared.reading.ImportFault.{ImportFault}
-use Rattle.doc_import.specs.declared.reading.ImportFault.TheVariants.{TooLong, Malformed, TooManyRows, NoMemory}
+use Rattle.doc_import.specs.declared.whole_text.Built.{Built}
+use Rattle.doc_store.specs.Stored.{Stored, base_of}
+use Rattle.kernel_session.specs.Commands.{Input, file}
 use Rattle.kernel_session.specs.Replies.{refusal_text}
-use Rattle.kernel_session.specs.Steps.{IsFault, IsCreateFault}
-
--- the rows are those of a forest that keeps all rules
-pub record IsKeptBuilt (built : Built) (next documents : ℕ) : Type 0 where
-  pub rows : IsBuilt built
-  pub sound : IsSound (built_forest built) next
-  pub counted : documents ≡ top_count (built_forest built)
+use Rattle.kernel_session.specs.Steps.{AreAsBefore, IsGiven, IsNotGiven, IsFault, IsNoContent, IsNewBase, IsCreateFault}
 
 -- names differ, there are fewer than 2^32 databases, and the open one is one of them
 pub record AreKept (bases : List Base) (opened : Option ℕ) : Type 0 where
@@ -25,22 +20,45 @@ pub record AreKept (bases : List Base) (opened : Option ℕ) : Type 0 where
   pub few : length bases < 2 ^ 32
   pub within : (place : ℕ) → opened ≡ Some place → place < length bases
 
--- what is read from XML text, under a path
-pub record IsRead (xml : List ℕ) (strip : Bool) (path : List ℕ) (built : Built) : Type 0 where
-  pub rows : IsBuilt built
-  pub forest : (g : Forest Label) × Reads xml strip (read_as g) × (built_forest built ≡ with_path path g)
+-- of none a branch is out
+abbrev pub AreWhole : List Stored → Type 0
+AreWhole databases = All (λ d. d.branched ≡ false) databases
 
--- the code of a fault of an import
-abbrev pub fault_text : ImportFault → List ℕ
-fault_text TooLong = codes "XKLM0002"
-fault_text Malformed = codes "XKXM0002"
-fault_text TooManyRows = codes "XKLM0003"
-fault_text NoMemory = codes "XKMEM"
+-- what is read from XML text
+pub record IsRead (xml : List ℕ) (strip : Bool) (built : Built) : Type 0 where
+  pub rows : IsBuilt built
+  pub tree : ReadsXml xml strip (as_tree (built_forest built))
+
+-- memory was wanting
+abbrev pub IsWant : Refusal → Type 0
+IsWant refusal = refusal_text refusal ≡ codes "XKMEM"
 
 -- why nothing is read
 abbrev pub IsReadFault : List ℕ → Bool → Refusal → Type 0
-IsReadFault xml strip refusal = IsFault xml strip (refusal_text refusal) ⊎ (refusal_text refusal ≡ codes "XKMEM")
+IsReadFault xml strip refusal = IsFault xml strip (refusal_text refusal) ⊎ IsWant refusal
+
+abbrev pub IsFileRefusal : List ℕ → Seen → Seen → Refusal → Type 0
+IsFileRefusal name before now refusal = IsNotGiven (file name) before now (refusal_text refusal) ⊎ (IsWant refusal × AreAsBefore before now)
+
+-- the document of an input
+pub record IsDocument (strip : Bool) (input : Input) (before now : Seen) (built : Built) : Type 0 where
+  pub bytes : List ℕ
+  pub given : IsGiven input before now bytes
+  pub read : IsRead bytes strip built
+
+abbrev pub IsNoDocument : Bool → Input → Seen → Seen → Refusal → Type 0
+IsNoDocument strip input before now refusal = IsNoContent strip input before now (refusal_text refusal) ⊎ (IsWant refusal × AreAsBefore before now)
+
+-- a database with just this document, and with no branch out
+pub record IsOne (name path : List ℕ) (built : Built) (d : Stored) : Type 0 where
+  pub base : base_of d ≡ new_base name (with_path path (built_forest built))
+  pub whole : d.branched ≡ false
+
+-- a new database
+pub record IsNew (strip : Bool) (name : List ℕ) (input : Option Input) (before now : Seen) (d : Stored) : Type 0 where
+  pub base : IsNewBase strip name input before now (base_of d)
+  pub whole : d.branched ≡ false
 
 -- why no database is made
-abbrev pub IsNoBase : Bool → List ℕ → Option (List ℕ) → Refusal → Type 0
-IsNoBase strip name xml refusal = IsCreateFault strip name xml (refusal_text refusal) ⊎ (refusal_text refusal ≡ codes "XKMEM")
+abbrev pub IsNoBase : Bool → List ℕ → Option Input → Seen → Seen → Refusal → Type 0
+IsNoBase strip name input before now refusal = IsCreateFault strip name input before now (refusal_text refusal) ⊎ (IsWant refusal × AreAsBefore before now)

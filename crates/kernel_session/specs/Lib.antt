@@ -5,8 +5,10 @@ pub mod Queries
 pub mod CommandView
 pub mod QueryView
 pub mod Places
+pub mod Tables
 pub mod Replies
 pub mod ReplyView
 pub mod Steps
+pub mod Exports
 pub mod Sessions
 pub mod Databases

@@ -1,10 +1,21 @@
 -- The queries that are read so far: paths of child steps (XQuery 1.0, section 3.2), without blanks.
-use Rattle.std.specs.Prelude.{ℕ, ◌==◌, List, [], ◌∷◌, codes, Option, Some, None, if◌then◌else◌}
-use Rattle.std.specs.List.{slice_split}
+use Rattle.std.specs.Prelude.{ℕ, Bool, ◌||◌, ◌&&◌, ◌==◌, List, [], ◌∷◌, codes, Option, Some, None, if◌then◌else◌}
+use Rattle.std.specs.List.{slice_split, list_all}
+use Rattle.std.specs.Char.{is_ascii_alphabetic, is_ascii_digit}
 use Rattle.std.specs.Option.{option_map}
 use Rattle.std.specs.Str.{bytes_eq}
-use Rattle.tree_model.specs.Chars.{is_ncname}
+use Rattle.tree_model.specs.XmlChars.{first_is}
 use Rattle.tree_model.specs.Paths.{NodeTest, named, texts}
+
+-- names of ASCII characters, without the colon
+abbrev pub is_name_start : ℕ → Bool
+is_name_start c = is_ascii_alphabetic c || c == 95
+
+abbrev pub is_name_char : ℕ → Bool
+is_name_char c = is_name_start c || is_ascii_digit c || c == 45 || c == 46
+
+unfoldable pub is_ncname : List ℕ → Bool
+is_ncname name = first_is is_name_start name && list_all is_name_char name
 
 -- the test of a step: text() or a name
 abbrev pub test_of : List ℕ → Option NodeTest

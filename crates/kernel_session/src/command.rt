@@ -1,11 +1,14 @@
 // Commands, as lines hold them.
-ghost use Rattle.std.specs.Prelude.{◌≡◌, ◌<◌, ◌≤◌, ◌^◌, ◌==◌, true, not, length};
+ghost use Rattle.std.specs.Prelude.{◌≡◌, ◌&&◌, nat_le, ◌<◌, ◌≤◌, ◌^◌, ◌++◌, ◌==◌, true, false, not, codes, length, IfSome, IfNone};
 ghost use Rattle.std.specs.List.{list_all};
 ghost use Rattle.tree_model.specs.Sound as sound;
+ghost use Rattle.tree_model.specs.Sound.{is_empty};
 ghost use Rattle.kernel_session.specs.Commands as read;
-ghost use Rattle.kernel_session.specs.CommandView.{ReadsCommand, form_of_read};
+ghost use Rattle.tree_model.specs.XmlChars.{has_word};
+ghost use Rattle.kernel_session.specs.CommandView.{ReadsCommand, form_of_read, input_of, input_of_document};
 
 use crate::blanks::trimmed;
+use crate::input::{DocumentFile, DocumentPath, FileName, Input, NewDocument, XmlText};
 use crate::lines::MAX_LINE;
 use crate::number::{Number, read_number};
 use crate::word::{has_no_blank, is_among, is_word, split_word};
@@ -17,41 +20,6 @@ const MAX_FILE_NAME: usize = 4096;
 
 // The most bytes of a document's path.
 const MAX_PATH: usize = 255;
-
-/// The XML text that a command was given: it begins with `<` and has at most 2^24 bytes.
-#[derive(Drop)]
-pub struct XmlText<'a> {
-    text: &'a [u8],
-}
-
-impl<'a> Model for XmlText<'a> {
-    ghost use Rattle.std.specs.Prelude.{ℕ, List, ◌≤◌, ◌^◌, length};
-    ghost use Rattle.kernel_session.specs.Commands.{BeginsXml};
-
-    ghost Value = { List ℕ };
-
-    ghost view = { λ x. x.text.now };
-
-    ghost invariant = { λ x. BeginsXml x.text.now × (length x.text.now ≤ 2 ^ 24) };
-}
-
-impl<'a> XmlText<'a> {
-    fn new(text: &'a [u8]) -> XmlText<'a>
-        requires begins { read.BeginsXml text.now }
-        requires len { length text.now ≤ 2 ^ 24 }
-        ensures { result ≡ text.now }
-    {
-        XmlText { text }
-    }
-
-    /// The bytes of the text.
-    pub fn bytes(&self) -> &'a [u8]
-        ensures value { result.now ≡ self.now }
-        ensures len { length result.now ≤ 2 ^ 24 }
-    {
-        self.text
-    }
-}
 
 /// The text of a query that a command was given: it isn't empty and has at most 2^24 bytes.
 #[derive(Drop)]
@@ -91,12 +59,12 @@ impl<'a> QueryText<'a> {
 /// A command with its words.
 #[derive(Drop)]
 pub enum Command<'a> {
-    /// `TABLE`: the rows of the document that the text spells.
-    Table(XmlText<'a>),
+    /// `TABLE`: the rows of the document of an input.
+    Table(Input<'a>),
     /// `CREATE DB`: a new database with a name, as it was read, and one document or none.
     CreateDb {
         name: &'a [u8],
-        xml: Option<XmlText<'a>>,
+        document: Option<NewDocument<'a>>,
     },
     /// `INFO STORAGE`: all rows of the open database, or those from the first pre up to and without the second.
     InfoStorage(Option<(Number, Number)>),
@@ -104,6 +72,11 @@ pub enum Command<'a> {
     List,
     /// `XQUERY`: the nodes that a query leads to.
     Query(QueryText<'a>),
+    /// `EXPORT`: the document under a path is written to a file.
+    Export {
+        path: DocumentPath<'a>,
+        file: FileName<'a>,
+    },
     /// `EXIT`: the end of the session.
     Exit,
     /// A form that isn't built yet.
@@ -119,8 +92,8 @@ pub struct Options {
 }
 
 // The words with which the forms that aren't built yet begin.
-const LATER_WORDS: [&str; 10] = [
-    "check", "open", "close", "add", "delete", "replace", "rename", "explain", "optimize", "export",
+const LATER_WORDS: [&str; 9] = [
+    "check", "open", "close", "add", "delete", "replace", "rename", "explain", "optimize",
 ];
 
 // Whether the first two words of a line are those of a form that isn't built yet.
@@ -133,14 +106,29 @@ fn is_later_form(first: &[u8], second: &[u8]) -> bool
         || (is_word("info", first) && is_among(&["db", "index"], second))
 }
 
-fn is_file_name(input: &[u8]) -> bool
-    ensures { result ≡ read.is_file_name input.now }
+// Whether a word is one of 1 to 4096 bytes.
+fn is_file_word(word: &[u8]) -> bool
+    ensures { result ≡ (not (is_empty word.now) && nat_le (length word.now) 4096 && list_all read.is_no_blank word.now) }
 {
-    input.len() <= MAX_FILE_NAME && has_no_blank(input)
+    !word.is_empty() && word.len() <= MAX_FILE_NAME && has_no_blank(word)
 }
 
-// The part of a file's name after the last `/`.
-fn last_part(input: &[u8]) -> &[u8]
+// The name of a file, as text.
+fn file_name(word: &[u8]) -> Option<&str>
+    ensures some { IfSome result (λ name. (name.now ≡ word.now) × (read.is_file_name word.now ≡ true)) }
+    ensures none { IfNone result (read.is_file_name word.now ≡ false) }
+{
+    if !is_file_word(word) {
+        return None;
+    }
+    match std::str::from_utf8(word) {
+        Ok(name) => Some(name),
+        Err(_) => None,
+    }
+}
+
+/// The part of a file's name after the last `/`.
+pub fn last_part(input: &[u8]) -> &[u8]
     ensures value { result.now ≡ read.last_part input.now }
     ensures no_slash { list_all (λ c. not (c == 47)) result.now ≡ true }
 {
@@ -163,20 +151,38 @@ fn has_path_bytes(bytes: &[u8]) -> bool
     bytes.iter().all(|byte| is_path_byte(*byte))
 }
 
-// Whether a part without `/` is the path of a document.
-#[tactic(auto, using(crate::proofs::Paths::path_of_part))]
-fn is_path(part: &[u8]) -> bool
-    requires { list_all (λ c. not (c == 47)) part.now ≡ true }
-    ensures { result ≡ sound.is_path part.now }
+// Whether two `/` stand in a row, also with one that follows.
+fn has_double_slash(bytes: &[u8]) -> bool
+    ensures { result ≡ has_word (codes "//") (bytes.now ++ codes "/") }
 {
-    !part.is_empty() && part.len() <= MAX_PATH && has_path_bytes(part)
+    let mut was_slash = false;
+    for byte in bytes {
+        let is_slash = *byte == b'/';
+        if was_slash && is_slash {
+            return true;
+        }
+        was_slash = is_slash;
+    }
+    was_slash
 }
 
-// Whether a file's name gives its document a path.
-fn is_document_file(input: &[u8]) -> bool
-    ensures { result ≡ read.is_document_file input.now }
+// Whether a word is the path of a document.
+fn is_path(word: &[u8]) -> bool
+    ensures { result ≡ sound.is_path word.now }
 {
-    is_file_name(input) && is_path(last_part(input))
+    match word {
+        [] | [b'/', ..] => false,
+        _ => word.len() <= MAX_PATH && has_path_bytes(word) && !has_double_slash(word),
+    }
+}
+
+// The file of a name.
+fn named_file(word: &[u8]) -> Option<Input<'_>>
+    ensures some { IfSome result (λ input. (input_of input ≡ read.file word.now) × (read.is_file_name word.now ≡ true)) }
+    ensures none { IfNone result (read.is_file_name word.now ≡ false) }
+{
+    let name = file_name(word)?;
+    Some(Input::File(FileName::new(name)))
 }
 
 // The command TABLE with this input.
@@ -186,9 +192,26 @@ fn table_command(input: &[u8]) -> Option<Command<'_>>
 {
     match input {
         [] => None,
-        [b'<', ..] => Some(Command::Table(XmlText::new(input))),
-        _ => is_file_name(input).then_some(Command::NotBuilt),
+        [b'<', ..] => Some(Command::Table(Input::Text(XmlText::new(input)))),
+        _ => match named_file(input) {
+            Some(file) => Some(Command::Table(file)),
+            None => None,
+        },
     }
+}
+
+// A file whose name gives its document a path.
+fn document_file(word: &[u8]) -> Option<NewDocument<'_>>
+    ensures some { IfSome result (λ document. (input_of_document document ≡ read.file word.now) × (read.is_document_file word.now ≡ true)) }
+    ensures none { IfNone result (read.is_document_file word.now ≡ false) }
+{
+    let Some(name) = file_name(word) else {
+        return None;
+    };
+    if !is_path(last_part(word)) {
+        return None;
+    }
+    Some(NewDocument::File(DocumentFile::new(name)))
 }
 
 // The command CREATE DB with this name and this input.
@@ -196,14 +219,21 @@ fn named_command<'a>(name: &'a [u8], input: &'a [u8]) -> Option<Command<'a>>
     requires { length input.now ≤ 2 ^ 24 }
     ensures { form_of_read result ≡ read.named_form name.now input.now }
 {
-    match input {
-        [] => Some(Command::CreateDb { name, xml: None }),
-        [b'<', ..] => Some(Command::CreateDb {
+    let document = match input {
+        [] => return Some(Command::CreateDb {
             name,
-            xml: Some(XmlText::new(input)),
+            document: None,
         }),
-        _ => is_document_file(input).then_some(Command::NotBuilt),
-    }
+        [b'<', ..] => NewDocument::Text(XmlText::new(input)),
+        _ => match document_file(input) {
+            Some(file) => file,
+            None => return None,
+        },
+    };
+    Some(Command::CreateDb {
+        name,
+        document: Some(document),
+    })
 }
 
 // The command CREATE DB with these words behind it.
@@ -242,6 +272,23 @@ fn query_command(words: &[u8]) -> Option<Command<'_>>
     Some(Command::Query(QueryText::new(words)))
 }
 
+// The command EXPORT with these words behind it.
+fn export_command(words: &[u8]) -> Option<Command<'_>>
+    ensures { form_of_read result ≡ read.export_form words.now }
+{
+    let (path, file) = split_word(words);
+    if !is_path(path) {
+        return None;
+    }
+    match file_name(file) {
+        Some(name) => Some(Command::Export {
+            path: DocumentPath::new(path),
+            file: FileName::new(name),
+        }),
+        None => None,
+    }
+}
+
 // The command that begins with these two words, with what stands behind them.
 fn two_word_command<'a>(first: &[u8], second: &[u8], words: &'a [u8]) -> Option<Command<'a>>
     requires { length words.now ≤ 2 ^ 24 }
@@ -277,6 +324,9 @@ fn command_of(line: &[u8]) -> Option<Command<'_>>
     }
     if is_word("xquery", first) {
         return query_command(behind);
+    }
+    if is_word("export", first) {
+        return export_command(behind);
     }
     let (second, words) = split_word(behind);
     two_word_command(first, second, words)

@@ -1,75 +1,115 @@
-// What XML text gives to a database: its document as rows, under a path.
-ghost use Rattle.std.specs.Prelude.{◌≡◌, length, IfOk, IfErr};
-ghost use Rattle.tree_model.specs.Labels.{with_path};
-ghost use Rattle.doc_import.specs.Imported.{IsBuilt, built_forest};
-ghost use Rattle.kernel_session.specs.Databases.{IsRead, IsReadFault, fault_text};
-ghost use Rattle.kernel_session.specs.Replies.{refusal_text};
-ghost use Rattle.kernel_session.specs.Steps as step;
+// The documents that inputs give.
+ghost use Rattle.std.specs.Prelude.{◌≡◌, ◌^◌, ◌≤◌, ℕ, Bool, List, Err, IfOk, IfErr};
+ghost use Rattle.doc_import.specs.Imported.{IsImport};
+ghost use Rattle.outer_io.specs.Files.{seen};
+ghost use Rattle.kernel_session.specs.Commands.{file};
+ghost use Rattle.kernel_session.specs.CommandView.{input_of, input_of_document};
+ghost use Rattle.kernel_session.specs.Databases.{IsRead, IsReadFault, IsDocument, IsNoDocument, IsFileRefusal};
+ghost use Rattle.kernel_session.specs.Steps.{IsGiven};
 
+use crate::input::{Input, NewDocument};
 use doc_import::{Built, ImportFault, import};
-use std::alloc::{AllocError, Global};
+use outer_io::{FileRead, Files};
+use std::alloc::Global;
 use tree_model::{Code, Refusal};
 
-fn is_later_byte(byte: u8) -> bool
-    ensures { result ≡ step.is_later_byte byte }
-{
-    (byte == b'&')
-        | (byte == b'!')
-        | (byte == b'?')
-        | (byte == b'=')
-        | (byte == b':')
-        | (byte == b'\r')
-        | (byte > 127)
-}
-
-/// Whether XML has a byte that isn't read yet. No byte is skipped, so that the compiler tests many at once.
-pub fn has_later_byte(bytes: &[u8]) -> bool
-    ensures { result ≡ step.has_later_byte bytes.now }
-{
-    let mut found = false;
-    for byte in bytes {
-        found |= is_later_byte(*byte);
-    }
-    found
-}
-
-// The same document under a path, which is put behind the other values.
-fn under_path(mut built: Built, path: &[u8]) -> Result<Built, AllocError>
-    requires { IsBuilt built }
-    ensures rows { IfOk result IsBuilt }
-    ensures forest { IfOk result (λ b. built_forest b ≡ with_path path.now (built_forest built)) }
-    ensures number { IfOk result (λ b. length b.rows.items ≡ length built.rows.items) }
-{
-    if built.rows.is_empty() {
-        return Ok(built);
-    }
-    let val = built.heap.append(path)?;
-    built.rows[0].val = val;
-    Ok(built)
-}
+// The most bytes of a file that is read.
+const MAX_FILE: u64 = 1 << 26;
 
 // The refusal for want of a document.
 fn refusal_of(fault: ImportFault) -> Refusal
-    ensures { refusal_text result ≡ fault_text fault }
+    ensures { (text : List ℕ) (strip : Bool) → IsImport text strip (Err fault) → IsReadFault text strip result }
 {
     match fault {
         ImportFault::TooLong => Refusal::Code(Code::XKLM0002),
+        ImportFault::NotUtf8 { at: _ } => Refusal::Code(Code::XKXM0001),
+        ImportFault::Encoding { at: _ } => Refusal::Code(Code::XKXM0006),
+        ImportFault::InternalSubset { at: _ } => Refusal::Code(Code::XKXM0003),
         ImportFault::Malformed => Refusal::Code(Code::XKXM0002),
+        ImportFault::UnknownEntity { at: _ } => Refusal::Code(Code::XKXM0004),
+        ImportFault::Namespace { at: _ } => Refusal::Code(Code::XKXM0005),
         ImportFault::TooManyRows => Refusal::Code(Code::XKLM0003),
         ImportFault::NoMemory => Refusal::NoMemory,
     }
 }
 
-/// The document that XML text spells, under a path.
-pub fn read_content(alloc: Global, xml: &[u8], strip: bool, path: &[u8]) -> Result<Built, Refusal>
-    ensures read { IfOk result (IsRead xml.now strip path.now) }
+// The document that XML text spells.
+fn read_text(alloc: Global, xml: &[u8], strip: bool) -> Result<Built, Refusal>
+    ensures read { IfOk result (IsRead xml.now strip) }
     ensures fault { IfErr result (IsReadFault xml.now strip) }
 {
     match import(alloc, xml, strip) {
-        Ok(built) => match under_path(built, path) {
-            Ok(built) => Ok(built),
-            Err(_e) => Err(Refusal::NoMemory),
-        },
+        Ok(built) => Ok(built),
         Err(fault) => Err(refusal_of(fault)),
+    }
+}
+
+// The bytes of a file.
+fn read_file<F: Files>(files: &mut F, name: &str) -> Result<Vec<u8>, Refusal>
+    ensures given { IfOk result (λ bytes. IsGiven (file name.now) (seen (F.map files.old) (F.faults files.old) (F.misses files.old) (F.overlong files.old))
+        (seen (F.map files.new) (F.faults files.new) (F.misses files.new) (F.overlong files.new)) bytes.items) }
+    ensures refused { IfErr result (IsFileRefusal name.now (seen (F.map files.old) (F.faults files.old) (F.misses files.old) (F.overlong files.old))
+        (seen (F.map files.new) (F.faults files.new) (F.misses files.new) (F.overlong files.new))) }
+{
+    match files.read(name, MAX_FILE) {
+        FileRead::Bytes(bytes) => Ok(bytes),
+        FileRead::Missing => Err(Refusal::Code(Code::XKFI0001)),
+        FileRead::TooLong => Err(Refusal::Code(Code::XKLM0002)),
+        FileRead::Failed => Err(Refusal::Code(Code::XKFI0002)),
+        FileRead::NoMemory => Err(Refusal::NoMemory),
+    }
+}
+
+// The document of a file.
+fn read_named<F: Files>(
+    alloc: Global,
+    name: &str,
+    strip: bool,
+    files: &mut F,
+) -> Result<Built, Refusal>
+    ensures document { IfOk result (IsDocument strip (file name.now) (seen (F.map files.old) (F.faults files.old) (F.misses files.old) (F.overlong files.old))
+        (seen (F.map files.new) (F.faults files.new) (F.misses files.new) (F.overlong files.new))) }
+    ensures none { IfErr result (IsNoDocument strip (file name.now) (seen (F.map files.old) (F.faults files.old) (F.misses files.old) (F.overlong files.old))
+        (seen (F.map files.new) (F.faults files.new) (F.misses files.new) (F.overlong files.new))) }
+{
+    match read_file(files, name) {
+        Ok(bytes) => read_text(alloc, &bytes, strip),
+        Err(refusal) => Err(refusal),
+    }
+}
+
+/// The document of an input, without a path.
+pub fn read_document<F: Files>(
+    alloc: Global,
+    input: &Input<'_>,
+    strip: bool,
+    files: &mut F,
+) -> Result<Built, Refusal>
+    ensures document { IfOk result (IsDocument strip (input_of input.now) (seen (F.map files.old) (F.faults files.old) (F.misses files.old) (F.overlong files.old))
+        (seen (F.map files.new) (F.faults files.new) (F.misses files.new) (F.overlong files.new))) }
+    ensures none { IfErr result (IsNoDocument strip (input_of input.now) (seen (F.map files.old) (F.faults files.old) (F.misses files.old) (F.overlong files.old))
+        (seen (F.map files.new) (F.faults files.new) (F.misses files.new) (F.overlong files.new))) }
+{
+    match input {
+        Input::Text(xml) => read_text(alloc, xml.bytes(), strip),
+        Input::File(file) => read_named(alloc, file.name(), strip, files),
+    }
+}
+
+/// The document of a new database, without a path.
+pub fn read_new_document<F: Files>(
+    alloc: Global,
+    document: &NewDocument<'_>,
+    strip: bool,
+    files: &mut F,
+) -> Result<Built, Refusal>
+    ensures document { IfOk result (IsDocument strip (input_of_document document.now) (seen (F.map files.old) (F.faults files.old) (F.misses files.old) (F.overlong files.old))
+        (seen (F.map files.new) (F.faults files.new) (F.misses files.new) (F.overlong files.new))) }
+    ensures none { IfErr result (IsNoDocument strip (input_of_document document.now) (seen (F.map files.old) (F.faults files.old) (F.misses files.old) (F.overlong files.old))
+        (seen (F.map files.new) (F.faults files.new) (F.misses files.new) (F.overlong files.new))) }
+{
+    match document {
+        NewDocument::Text(xml) => read_text(alloc, xml.bytes(), strip),
+        NewDocument::File(file) => read_named(alloc, file.name(), strip, files),
     }
 }

@@ -1,19 +1,28 @@
 // A new database: its name, and its document if it has one.
-ghost use Rattle.std.specs.Prelude.{◌≡◌, true, false, [], Some, IfOk, IfErr};
+ghost use Rattle.std.specs.Prelude.{◌≡◌, ℕ, Bool, List, true, false, Ok, IfOk, IfErr};
+ghost use Rattle.std.specs.Char.{is_ascii};
 ghost use Rattle.std.specs.List.{list_all};
+ghost use Rattle.std.specs.Option.{option_map};
+ghost use Rattle.outer_io.specs.Files.{seen};
+ghost use Rattle.tree_model.specs.Forest.{none};
+ghost use Rattle.tree_model.specs.Labels.{numbered};
+ghost use Rattle.tree_model.specs.Sound.{is_path, IsSound};
 ghost use Rattle.tree_model.specs.States as states;
-ghost use Rattle.kernel_session.specs.Databases.{IsNoBase, IsReadFault};
-ghost use Rattle.kernel_session.specs.Steps.{IsNewBase};
-ghost use Rattle.kernel_session.specs.Steps as step;
+ghost use Rattle.doc_import.specs.Imported.{IsBuilt, built_forest};
+ghost use Rattle.doc_store.specs.Stored.{base_of};
+ghost use Rattle.kernel_session.specs.Commands as read;
+ghost use Rattle.kernel_session.specs.CommandView.{input_of_document};
+ghost use Rattle.kernel_session.specs.Databases.{IsRead, IsOne, IsNew, IsNoBase, IsWant};
 
-use crate::command::XmlText;
-use crate::content::{has_later_byte, read_content};
-use crate::database::Database;
+use crate::command::last_part;
+use crate::content::read_new_document;
+use crate::input::NewDocument;
 use doc_import::Built;
-use name_pool::NamePool;
+use doc_store::Database;
+use frame_pool::Meter;
+use outer_io::Files;
 use std::alloc::{AllocError, Global};
-use tree_model::{Code, Refusal};
-use value_heap::ValueHeap;
+use tree_model::{Code, Refusal, Text};
 
 // The most bytes of a database's name.
 const MAX_NAME: usize = 64;
@@ -36,73 +45,125 @@ fn is_base_name(name: &[u8]) -> bool
     !name.is_empty() && name.len() <= MAX_NAME && has_name_bytes(name)
 }
 
-fn has_later_input(xml: &Option<XmlText<'_>>) -> bool
-    ensures { result ≡ step.has_later_input xml.now }
+// ASCII bytes as a text.
+fn ascii_text(alloc: Global, bytes: &[u8]) -> Result<Text, AllocError>
+    requires { list_all is_ascii bytes.now ≡ true }
+    ensures { IfOk result (λ text. text ≡ bytes.now) }
 {
-    match xml {
-        Some(xml) => has_later_byte(xml.bytes()),
-        None => false,
+    match std::str::from_utf8(bytes) {
+        Ok(text) => Text::of(alloc, text),
+        Err(_) => Err(AllocError),
     }
 }
 
 // The path of a document that is given as XML text.
-fn default_path(alloc: Global, name: &[u8]) -> Result<Vec<u8>, AllocError>
-    ensures { IfOk result (λ path. path.items ≡ states.default_path name.now) }
+fn default_path(alloc: Global, name: &[u8]) -> Result<Text, AllocError>
+    requires { states.is_base_name name.now ≡ true }
+    ensures { IfOk result (λ path. path ≡ states.default_path name.now) }
 {
     let mut path = name.to_vec(alloc)?;
     path.extend_from_slice(b".xml")?;
-    Ok(path)
+    ascii_text(alloc, &path)
 }
 
-// A table without rows.
-fn no_rows(alloc: Global) -> Built
-    ensures names { result.names ≡ [] }
-    ensures heap { result.heap ≡ [] }
-    ensures rows { result.rows.items ≡ [] }
+// The path of the document of a new database of this name.
+fn path_of(alloc: Global, name: &[u8], document: &NewDocument<'_>) -> Result<Text, AllocError>
+    requires { states.is_base_name name.now ≡ true }
+    ensures path { IfOk result (λ path. path ≡ read.path_of_input name.now (input_of_document document.now)) }
+    ensures good { IfOk result (λ path. is_path path ≡ true) }
 {
-    Built {
-        names: NamePool::new(alloc),
-        heap: ValueHeap::new(alloc),
-        rows: Vec::new(alloc),
+    match document {
+        NewDocument::Text(_) => default_path(alloc, name),
+        NewDocument::File(file) => ascii_text(alloc, last_part(file.name().as_bytes())),
     }
 }
 
-// A database of this name, with the document that XML text spells.
-fn with_document(alloc: Global, name: Vec<u8>, xml: &[u8], strip: bool) -> Result<Database, Refusal>
-    requires name { states.is_base_name name.items ≡ true }
-    requires now { step.has_later_byte xml.now ≡ false }
-    ensures ok { IfOk result (IsNewBase strip name.items (Some xml.now)) }
-    ensures err { IfErr result (IsReadFault xml.now strip) }
+// An empty database.
+fn empty_database(alloc: Global, name: &[u8]) -> Result<Database, AllocError>
+    requires { states.is_base_name name.now ≡ true }
+    ensures { IfOk result (λ d. (base_of d ≡ states.new_base name.now none) × (d.branched ≡ false)) }
 {
-    let Ok(path) = default_path(alloc, &name) else {
-        return Err(Refusal::NoMemory);
-    };
-    let built = read_content(alloc, xml, strip, &path)?;
-    Ok(Database::new(name, 1, built))
+    let name = ascii_text(alloc, name)?;
+    Database::new_at(alloc, &name, 0)
 }
 
-/// A new database. `XKCM0002` where the XML has bytes that aren't read yet, then `XKDB0003` for a name that isn't good, then
-/// the fault of the XML.
-pub fn new_database(
+/// A database with one document under a path, whose nodes have the ids from 0 on. Want of memory is the one refusal: the
+/// document has no more than 2^24 nodes, and no other stands beside it.
+pub fn database_of(
+    alloc: Global,
+    name: &Text,
+    path: &Text,
+    built: &Built,
+    meter: &mut Meter,
+) -> Result<Database, AllocError>
+    requires path { is_path path.now ≡ true }
+    requires read { (xml : List ℕ) × (strip : Bool) × IsRead xml strip built.now }
+    ensures one { IfOk result (IsOne name.now path.now built.now) }
+    ensures meter { meter.new ≡ meter.old }
+{
+    let mut database = Database::new_at(alloc, name, 0)?;
+    let mut branch = database.branch()?;
+    match database.add_document(&mut branch, 0, path, built, meter) {
+        Ok(()) => {
+            database.commit(branch);
+            Ok(database)
+        }
+        Err(_) => Err(AllocError),
+    }
+}
+
+// A database of this name with the document that was read for it.
+fn with_document(
     alloc: Global,
     name: &[u8],
-    xml: &Option<XmlText<'_>>,
-    strip: bool,
-) -> Result<Database, Refusal>
-    ensures ok { IfOk result (IsNewBase strip name.now xml.now) }
-    ensures err { IfErr result (IsNoBase strip name.now xml.now) }
+    document: &NewDocument<'_>,
+    built: &Built,
+    meter: &mut Meter,
+) -> Result<Database, AllocError>
+    requires name { states.is_base_name name.now ≡ true }
+    requires read { (xml : List ℕ) × (strip : Bool) × IsRead xml strip built.now }
+    ensures one { IfOk result (IsOne name.now (read.path_of_input name.now (input_of_document document.now)) built.now) }
+    ensures meter { meter.new ≡ meter.old }
 {
-    if has_later_input(xml) {
-        return Err(Refusal::Code(Code::XKCM0002));
+    let path = path_of(alloc, name, document)?;
+    let name = ascii_text(alloc, name)?;
+    database_of(alloc, &name, &path, built, meter)
+}
+
+// What was made, or that memory was wanting.
+fn made(database: Result<Database, AllocError>) -> Result<Database, Refusal>
+    ensures ok { IfOk result (λ d. database ≡ Ok d) }
+    ensures err { IfErr result IsWant }
+{
+    match database {
+        Ok(database) => Ok(database),
+        Err(_e) => Err(Refusal::NoMemory),
     }
+}
+
+/// A new database. `XKDB0003` for a name that isn't good, then what its input is refused for.
+pub fn new_database<F: Files>(
+    alloc: Global,
+    name: &[u8],
+    document: &Option<NewDocument<'_>>,
+    strip: bool,
+    files: &mut F,
+    meter: &mut Meter,
+) -> Result<Database, Refusal>
+    ensures ok { IfOk result (IsNew strip name.now (option_map input_of_document document.now) (seen (F.map files.old) (F.faults files.old) (F.misses files.old) (F.overlong files.old))
+        (seen (F.map files.new) (F.faults files.new) (F.misses files.new) (F.overlong files.new))) }
+    ensures err { IfErr result (IsNoBase strip name.now (option_map input_of_document document.now) (seen (F.map files.old) (F.faults files.old) (F.misses files.old) (F.overlong files.old))
+        (seen (F.map files.new) (F.faults files.new) (F.misses files.new) (F.overlong files.new))) }
+    ensures meter { meter.new ≡ meter.old }
+{
     if !is_base_name(name) {
         return Err(Refusal::Code(Code::XKDB0003));
     }
-    let Ok(name) = name.to_vec(alloc) else {
-        return Err(Refusal::NoMemory);
+    let Some(document) = document else {
+        return made(empty_database(alloc, name));
     };
-    match xml {
-        Some(xml) => with_document(alloc, name, xml.bytes(), strip),
-        None => Ok(Database::new(name, 0, no_rows(alloc))),
+    match read_new_document(alloc, document, strip, files) {
+        Ok(built) => made(with_document(alloc, name, document, &built, meter)),
+        Err(refusal) => Err(refusal),
     }
 }

@@ -1,28 +1,39 @@
 // The kernel: its databases, and what it answers to commands.
-ghost use Rattle.std.specs.Prelude.{◌≡◌, ◌<◌, ◌^◌, ◌++◌, ◌∷◌, [], None, true, map, length, codes, OnOk, OnErr, IfSome, IfNone};
+ghost use Rattle.std.specs.Prelude.{◌≡◌, ◌<◌, ◌^◌, ◌++◌, ◌∷◌, [], ℕ, Bool, List, None, IfOk, true, false, map, length, codes, OnOk, OnErr, IfSome, IfNone};
 ghost use Rattle.std.specs.List.{position};
+ghost use Rattle.std.specs.Option.{option_map};
 ghost use Rattle.std.specs.Str.{bytes_eq};
-ghost use Rattle.tree_model.specs.Printed.{rows_text, storage_text, list_text};
+ghost use Rattle.outer_io.specs.Files.{Seen, seen};
+ghost use Rattle.tree_model.specs.Printed.{list_text};
+ghost use Rattle.tree_model.specs.Printed as printed;
+ghost use Rattle.tree_model.specs.Labels.{with_path};
+ghost use Rattle.doc_import.specs.Imported.{built_forest};
 ghost use Rattle.tree_model.specs.States.{State, Base, IsOpened, no_bases, without_name, with_new};
 ghost use Rattle.tree_model.specs.Sound.{are_distinct};
-ghost use Rattle.doc_import.specs.Imported.{IsBuilt, built_forest};
-ghost use Rattle.kernel_session.specs.CommandView.{form_of_command};
+ghost use Rattle.doc_store.specs.Stored.{Stored, base_of};
+ghost use Rattle.kernel_session.specs.CommandView.{form_of_command, input_of, input_of_document};
+ghost use Rattle.kernel_session.specs.Databases.{AreKept, AreWhole, IsRead};
 ghost use Rattle.kernel_session.specs.Replies.{accepted, refused, IsText};
 ghost use Rattle.kernel_session.specs.ReplyView.{answer_of};
-ghost use Rattle.kernel_session.specs.Commands.{table, create, storage, query};
-ghost use Rattle.kernel_session.specs.Steps.{Step};
+ghost use Rattle.kernel_session.specs.Exports.{IsWrittenReply};
+ghost use Rattle.kernel_session.specs.Commands.{table, create, storage, list, query, export};
+ghost use Rattle.kernel_session.specs.Steps.{Workspace, workspace, Step};
 
-use crate::command::{Command, Options, XmlText};
-use crate::content::{has_later_byte, read_content};
-use crate::create::new_database;
-use crate::database::{Database, push_all_rows};
+use crate::answers::{find_document, push_answer, push_list, push_node, push_storage};
+use crate::command::{Command, Options};
+use crate::content::read_document;
+use crate::create::{database_of, new_database};
+use crate::input::{DocumentPath, FileName, Input, NewDocument};
 use crate::number::Number;
 use crate::query::read_path;
 use crate::reply::Reply;
 use doc_import::Built;
+use doc_store::Database;
+use frame_pool::Meter;
+use outer_io::{FileWrite, Files};
 use std::alloc::{AllocError, Global};
 use std::marker::Model;
-use tree_model::{Code, Refusal};
+use tree_model::{Code, Refusal, Text};
 
 /// There are fewer databases than this.
 const MAX_DATABASES: usize = 1 << 32;
@@ -35,58 +46,54 @@ pub struct Kernel {
 }
 
 impl Model for Kernel {
+    ghost use Rattle.std.specs.Prelude.{map};
     ghost use Rattle.tree_model.specs.States.{State};
     ghost use Rattle.tree_model.specs.Codes.{coded_state};
-    ghost use Rattle.kernel_session.specs.Databases.{AreKept};
+    ghost use Rattle.doc_store.specs.Stored.{base_of};
+    ghost use Rattle.kernel_session.specs.Databases.{AreKept, AreWhole};
 
     ghost Value = { State };
 
     ghost coded = { coded_state };
 
-    ghost view = { λ k. record { bases = k.databases.items; opened = k.opened } };
+    ghost view = { λ k. record { bases = map base_of k.databases.items; opened = k.opened } };
 
-    ghost invariant = { λ k. AreKept k.databases.items k.opened };
+    ghost invariant = { λ k. AreKept (map base_of k.databases.items) k.opened × AreWhole k.databases.items };
 }
 
-fn place_of(databases: &[Database], name: &[u8]) -> Option<usize>
-    ensures { result ≡ position (λ (base : Base). bytes_eq base.name name.now) databases.now }
+fn is_named(database: &Database, name: &str) -> bool
+    ensures { result ≡ bytes_eq database.now.name name.now }
+{
+    database.name().as_str() == name
+}
+
+fn place_of(databases: &[Database], name: &str) -> Option<usize>
+    ensures { result ≡ position (λ (d : Stored). bytes_eq d.name name.now) databases.now }
 {
     databases
         .iter()
-        .position(|database| database.is_named(name))
+        .position(|database| is_named(database, name))
 }
 
 // Puts a database behind the others, and drops the one of its name that was there.
 fn put(databases: &mut Vec<Database>, database: Database) -> Result<(), AllocError>
-    requires distinct { are_distinct (map (λ (base : Base). base.name) databases.old.items) ≡ true }
-    ensures put { OnOk result (databases.new.items ≡ without_name database.name databases.old.items ++ database ∷ []) }
+    requires distinct { are_distinct (map (λ (base : Base). base.name) (map base_of databases.old.items)) ≡ true }
+    requires whole { AreWhole databases.old.items }
+    requires own { database.branched ≡ false }
+    ensures put { OnOk result (map base_of databases.new.items ≡ without_name database.name (map base_of databases.old.items) ++ base_of database ∷ []) }
+    ensures whole { OnOk result (AreWhole databases.new.items) }
     ensures few { OnOk result (length databases.new.items < 2 ^ 32) }
     ensures err { OnErr result (databases.new.items ≡ databases.old.items) }
 {
     if databases.len() + 1 >= MAX_DATABASES {
         return Err(AllocError);
     }
-    let place = place_of(databases.as_slice(), database.name());
+    let place = place_of(databases.as_slice(), database.name().as_str());
     databases.push(database)?;
     let Some(place) = place else {
         return Ok(());
     };
     databases.remove(place);
-    Ok(())
-}
-
-// Appends a line for each database, joined by LF.
-fn push_list(databases: &[Database], out: &mut Vec<u8>) -> Result<(), AllocError>
-    ensures { OnOk result (out.new.items ≡ out.old.items ++ list_text databases.now) }
-{
-    let Some((first, rest)) = databases.split_first() else {
-        return Ok(());
-    };
-    first.push_line(out)?;
-    for database in rest {
-        out.push(b'\n')?;
-        database.push_line(out)?;
-    }
     Ok(())
 }
 
@@ -101,39 +108,66 @@ fn text_reply(text: Vec<u8>, written: Result<(), AllocError>) -> Reply
     }
 }
 
-fn rows_reply(alloc: Global, built: &Built) -> Reply
-    requires built { IsBuilt built.now }
-    requires few { length built.now.rows.items < 2 ^ 32 }
-    ensures { IsText (rows_text (built_forest built.now)) (answer_of result) }
+// The text of all rows of a document under the path `table`.
+fn rows_text(alloc: Global, built: &Built, meter: &mut Meter) -> Result<Vec<u8>, AllocError>
+    requires read { (xml : List ℕ) × (strip : Bool) × IsRead xml strip built.now }
+    ensures text { IfOk result (λ text. text.items ≡ printed.rows_text (with_path (codes "table") (built_forest built.now))) }
+    ensures meter { meter.new ≡ meter.old }
 {
+    let name = Text::of(alloc, "table")?;
+    let database = database_of(alloc, &name, &name, built, meter)?;
     let mut text = Vec::new(alloc);
-    let written = push_all_rows(built, &mut text);
-    text_reply(text, written)
+    push_storage(&database, &None, &mut text)?;
+    Ok(text)
+}
+
+// A text, or that memory was wanting.
+fn made_reply(text: Result<Vec<u8>, AllocError>) -> Reply
+    ensures ok { IfOk text (λ made. answer_of result ≡ accepted made.items) }
+    ensures err { OnErr text (answer_of result ≡ refused (codes "XKMEM")) }
+{
+    match text {
+        Ok(text) => Reply::Ok(text),
+        Err(_e) => Reply::Err(Refusal::NoMemory),
+    }
+}
+
+// All rows of a document under the path `table`.
+fn rows_reply(alloc: Global, built: &Built, meter: &mut Meter) -> Reply
+    requires read { (xml : List ℕ) × (strip : Bool) × IsRead xml strip built.now }
+    ensures text { IsText (printed.rows_text (with_path (codes "table") (built_forest built.now))) (answer_of result) }
+    ensures meter { meter.new ≡ meter.old }
+{
+    made_reply(rows_text(alloc, built, meter))
 }
 
 // The reply to TABLE.
-fn table_reply(alloc: Global, xml: &[u8], options: Options) -> Reply
-    ensures { (state : State) → Step options state (table xml.now) (answer_of result) state }
+fn table_reply<F: Files>(
+    alloc: Global,
+    input: &Input<'_>,
+    files: &mut F,
+    options: Options,
+    meter: &mut Meter,
+) -> Reply
+    ensures step { (state : State) → Step options (workspace state (F.map files.old) (F.faults files.old) (F.misses files.old) (F.overlong files.old)) (table (input_of input.now)) (answer_of result)
+        (workspace state (F.map files.new) (F.faults files.new) (F.misses files.new) (F.overlong files.new)) }
+    ensures meter { meter.new ≡ meter.old }
 {
-    if has_later_byte(xml) {
-        return Reply::Err(Refusal::Code(Code::XKCM0002));
-    }
-    match read_content(alloc, xml, options.strip, b"table") {
-        Ok(built) => rows_reply(alloc, &built),
+    match read_document(alloc, input, options.strip, files) {
+        Ok(built) => rows_reply(alloc, &built, meter),
         Err(refusal) => Reply::Err(refusal),
     }
 }
 
-fn push_storage(
-    database: &Database,
-    range: &Option<(Number, Number)>,
-    out: &mut Vec<u8>,
-) -> Result<(), AllocError>
-    ensures { OnOk result (out.new.items ≡ out.old.items ++ storage_text range.now database.now.documents) }
+// The reply to EXPORT, once the document was printed.
+fn written_reply<F: Files>(alloc: Global, name: &str, text: &[u8], files: &mut F) -> Reply
+    ensures { IsWrittenReply name.now text.now (seen (F.map files.old) (F.faults files.old) (F.misses files.old) (F.overlong files.old))
+        (seen (F.map files.new) (F.faults files.new) (F.misses files.new) (F.overlong files.new)) (answer_of result) }
 {
-    match range {
-        None => database.push_rows(out),
-        Some((from, to)) => database.push_range(from.value(), to.value(), out),
+    match files.write(name, text) {
+        FileWrite::Done => Reply::Ok(Vec::new(alloc)),
+        FileWrite::Failed => Reply::Err(Refusal::Code(Code::XKFI0002)),
+        FileWrite::NoMemory => Reply::Err(Refusal::NoMemory),
     }
 }
 
@@ -148,9 +182,33 @@ impl Kernel {
         }
     }
 
+    /// A kernel with these databases, in this order, and this one open. Takes no memory.
+    pub fn of(databases: Vec<Database>, opened: Option<u32>) -> Kernel
+        requires kept { AreKept (map base_of databases.items) opened }
+        requires whole { AreWhole databases.items }
+        ensures { result ≡ record { bases = map base_of databases.items; opened = opened } }
+    {
+        Kernel { databases, opened }
+    }
+
+    /// The databases, in order of making. Of none a branch is out.
+    pub fn databases(&self) -> &[Database]
+        ensures bases { map base_of result.now ≡ self.now.bases }
+        ensures whole { AreWhole result.now }
+    {
+        self.databases.as_slice()
+    }
+
+    /// The place of the open database among them.
+    pub fn open(&self) -> Option<u32>
+        ensures { result ≡ self.now.opened }
+    {
+        self.opened
+    }
+
     // The open database.
     fn database(&self) -> Option<&Database>
-        ensures some { IfSome result (λ database. IsOpened self.now database.now) }
+        ensures some { IfSome result (λ database. IsOpened self.now (base_of database.now)) }
         ensures none { IfNone result (self.now.opened ≡ None) }
     {
         let place = self.opened?;
@@ -159,7 +217,7 @@ impl Kernel {
 
     // The reply to INFO STORAGE.
     fn storage_reply(&self, alloc: Global, range: &Option<(Number, Number)>) -> Reply
-        ensures { (options : Options) → Step options self.now (storage range.now) (answer_of result) self.now }
+        ensures { (options : Options) (w : Workspace) → w.state ≡ self.now → Step options w (storage range.now) (answer_of result) w }
     {
         let Some(database) = self.database() else {
             return Reply::Err(Refusal::Code(Code::XKDB0001));
@@ -174,15 +232,15 @@ impl Kernel {
         ensures { IsText (list_text self.now.bases) (answer_of result) }
     {
         let mut text = Vec::new(alloc);
-        let written = push_list(self.databases.as_slice(), &mut text);
+        let written = push_list(alloc, self.databases.as_slice(), &mut text);
         text_reply(text, written)
     }
 
     // The reply to XQUERY.
-    fn query_reply(&self, alloc: Global, text: &[u8]) -> Reply
-        ensures { (options : Options) → Step options self.now (query text.now) (answer_of result) self.now }
+    fn query_reply(&self, alloc: Global, words: &[u8]) -> Reply
+        ensures { (options : Options) (w : Workspace) → w.state ≡ self.now → Step options w (query words.now) (answer_of result) w }
     {
-        let tests = match read_path(alloc, text) {
+        let tests = match read_path(alloc, words) {
             Ok(Some(tests)) => tests,
             Ok(None) => return Reply::Err(Refusal::Code(Code::XKCM0002)),
             Err(_e) => return Reply::Err(Refusal::NoMemory),
@@ -191,13 +249,38 @@ impl Kernel {
             return Reply::Err(Refusal::Code(Code::XPDY0002));
         };
         let mut text = Vec::new(alloc);
-        let written = database.push_answer(alloc, &tests, &mut text);
+        let written = push_answer(alloc, database, &tests, &mut text);
         text_reply(text, written)
+    }
+
+    // The reply to EXPORT.
+    fn export_reply<F: Files>(
+        &self,
+        alloc: Global,
+        path: &DocumentPath<'_>,
+        file: &FileName<'_>,
+        files: &mut F,
+    ) -> Reply
+        ensures { (options : Options) → Step options (workspace self.now (F.map files.old) (F.faults files.old) (F.misses files.old) (F.overlong files.old)) (export path.now file.now) (answer_of result)
+            (workspace self.now (F.map files.new) (F.faults files.new) (F.misses files.new) (F.overlong files.new)) }
+    {
+        let Some(database) = self.database() else {
+            return Reply::Err(Refusal::Code(Code::XKDB0001));
+        };
+        let Some(place) = find_document(database, path.bytes()) else {
+            return Reply::Err(Refusal::Code(Code::XKDB0004));
+        };
+        let mut text = Vec::new(alloc);
+        match push_node(database, place, &mut text) {
+            Ok(()) => written_reply(alloc, file.name(), &text, files),
+            Err(_e) => Reply::Err(Refusal::NoMemory),
+        }
     }
 
     // Puts a database behind the others, drops the one of its name that was there, and opens it.
     fn add(&mut self, database: Database) -> Result<(), AllocError>
-        ensures ok { OnOk result (self.new ≡ with_new database self.old) }
+        requires own { database.branched ≡ false }
+        ensures ok { OnOk result (self.new ≡ with_new (base_of database) self.old) }
         ensures err { OnErr result (self.new ≡ self.old) }
     {
         put(&mut self.databases, database)?;
@@ -206,16 +289,20 @@ impl Kernel {
     }
 
     // The reply to CREATE DB.
-    fn create(
+    fn create<F: Files>(
         &mut self,
         alloc: Global,
         name: &[u8],
-        xml: &Option<XmlText<'_>>,
+        document: &Option<NewDocument<'_>>,
+        files: &mut F,
         options: Options,
+        meter: &mut Meter,
     ) -> Reply
-        ensures { Step options self.old (create name.now xml.now) (answer_of result) self.new }
+        ensures step { Step options (workspace self.old (F.map files.old) (F.faults files.old) (F.misses files.old) (F.overlong files.old)) (create name.now (option_map input_of_document document.now)) (answer_of result)
+            (workspace self.new (F.map files.new) (F.faults files.new) (F.misses files.new) (F.overlong files.new)) }
+        ensures meter { meter.new ≡ meter.old }
     {
-        let database = match new_database(alloc, name, xml, options.strip) {
+        let database = match new_database(alloc, name, document, options.strip, files, meter) {
             Ok(database) => database,
             Err(refusal) => return Reply::Err(refusal),
         };
@@ -223,16 +310,29 @@ impl Kernel {
         text_reply(Vec::new(alloc), added)
     }
 
-    /// The reply to a command. A refused command leaves the state as it was.
-    pub fn execute(&mut self, alloc: Global, command: &Command<'_>, options: Options) -> Reply
-        ensures { Step options self.old (form_of_command command.now) (answer_of result) self.new }
+    /// The reply to a command. A refused command leaves all databases as they were, and all files but for the bytes of the one
+    /// that it failed to write.
+    pub fn execute<F: Files>(
+        &mut self,
+        alloc: Global,
+        command: &Command<'_>,
+        files: &mut F,
+        options: Options,
+        meter: &mut Meter,
+    ) -> Reply
+        ensures step { Step options (workspace self.old (F.map files.old) (F.faults files.old) (F.misses files.old) (F.overlong files.old)) (form_of_command command.now) (answer_of result)
+            (workspace self.new (F.map files.new) (F.faults files.new) (F.misses files.new) (F.overlong files.new)) }
+        ensures meter { meter.new ≡ meter.old }
     {
         match command {
-            Command::Table(xml) => table_reply(alloc, xml.bytes(), options),
-            Command::CreateDb { name, xml } => self.create(alloc, name, xml, options),
+            Command::Table(input) => table_reply(alloc, input, files, options, meter),
+            Command::CreateDb { name, document } => {
+                self.create(alloc, name, document, files, options, meter)
+            }
             Command::InfoStorage(range) => self.storage_reply(alloc, range),
             Command::List => self.list_reply(alloc),
-            Command::Query(text) => self.query_reply(alloc, text.bytes()),
+            Command::Query(words) => self.query_reply(alloc, words.bytes()),
+            Command::Export { path, file } => self.export_reply(alloc, path, file, files),
             Command::Exit => Reply::Ok(Vec::new(alloc)),
             Command::NotBuilt => Reply::Err(Refusal::Code(Code::XKCM0002)),
         }

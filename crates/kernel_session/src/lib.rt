@@ -1,11 +1,12 @@
 //! A session: a script of commands in, a reply to each out.
 #![tactic(auto)]
 
+mod answers;
 mod blanks;
 mod command;
 mod content;
 mod create;
-mod database;
+mod input;
 mod kernel;
 mod lines;
 mod number;
@@ -14,13 +15,15 @@ mod path;
 mod query;
 mod reply;
 mod session;
+mod table;
 mod word;
 
-pub use command::{Command, Options, QueryText, XmlText, read_command};
+pub use command::{Command, Options, QueryText, read_command};
+pub use input::{DocumentFile, DocumentPath, FileName, Input, NewDocument, XmlText};
 pub use kernel::Kernel;
 pub use number::Number;
 pub use reply::Reply;
-pub use session::{Status, one_cut, run};
+pub use session::{Status, file_faults_count, one_cut, run};
 
 #[cfg(test)]
 mod tests;

@@ -2,7 +2,7 @@
 ghost use Rattle.std.specs.Prelude.{◌≡◌, ◌==◌, ◌∷◌, map, IfOk};
 ghost use Rattle.std.specs.List.{list_all, position, slice_split};
 ghost use Rattle.std.specs.Option.{option_map};
-ghost use Rattle.tree_model.specs.Chars as chars;
+ghost use Rattle.kernel_session.specs.Queries as read;
 ghost use Rattle.kernel_session.specs.Queries.{test_of, tests_of, path_of};
 ghost use Rattle.kernel_session.specs.QueryView.{node_test, parts_of};
 
@@ -16,26 +16,26 @@ pub enum Test<'a> {
 }
 
 fn is_name_start(byte: u8) -> bool
-    ensures { result ≡ chars.is_name_start byte }
+    ensures { result ≡ read.is_name_start byte }
 {
     byte.is_ascii_alphabetic() || byte == b'_'
 }
 
 fn is_name_byte(byte: u8) -> bool
-    ensures { result ≡ chars.is_name_char byte }
+    ensures { result ≡ read.is_name_char byte }
 {
     is_name_start(byte) || byte.is_ascii_digit() || byte == b'-' || byte == b'.'
 }
 
 fn has_name_bytes(bytes: &[u8]) -> bool
-    ensures { result ≡ list_all chars.is_name_char bytes.now }
+    ensures { result ≡ list_all read.is_name_char bytes.now }
 {
     bytes.iter().all(|byte| is_name_byte(*byte))
 }
 
-#[tactic(auto, unfolding(tree_model::specs::Chars::is_ncname))]
+#[tactic(auto, unfolding(crate::specs::Queries::is_ncname))]
 fn is_ncname(name: &[u8]) -> bool
-    ensures { result ≡ chars.is_ncname name.now }
+    ensures { result ≡ read.is_ncname name.now }
 {
     match name {
         [] => false,

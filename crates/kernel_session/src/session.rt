@@ -6,17 +6,18 @@ ghost use Rattle.outer_io.specs.Outer.{Rose};
 ghost use Rattle.kernel_session.specs.Lines.{IsKept, IsOneLine};
 ghost use Rattle.kernel_session.specs.Commands.{exit};
 ghost use Rattle.kernel_session.specs.CommandView.{form_of_command};
-ghost use Rattle.kernel_session.specs.Steps.{IsAnswered, IsLineAnswer, IsExit, IsExitLine};
+ghost use Rattle.kernel_session.specs.Steps.{workspace, IsAnswered, IsLineAnswer, IsExit, IsExitLine};
 ghost use Rattle.kernel_session.specs.Replies.{HasWritten, text_if};
 ghost use Rattle.kernel_session.specs.ReplyView.{answer_of};
-ghost use Rattle.kernel_session.specs.Sessions.{Ran, HasAnswered, is_refusal, number_of, IsShort, AreLines, joined};
+ghost use Rattle.kernel_session.specs.Sessions.{Ran, HasAnswered, is_refusal, number_of, IsShort, AreLines, joined, FileFaultsCount};
 
 use crate::blanks::{trimmed, without_return};
 use crate::command::{Command, Options, read_command};
 use crate::kernel::Kernel;
 use crate::lines::{LineEnd, LineReader};
 use crate::reply::{Reply, WriteFailed, write_reply};
-use outer_io::{Sink, Source};
+use frame_pool::Meter;
+use outer_io::{Files, Sink, Source};
 use std::alloc::Global;
 use tree_model::{Code, Refusal};
 
@@ -45,30 +46,43 @@ fn is_exit(command: &Command<'_>) -> bool
 }
 
 // What is answered to a line that isn't too long and isn't skipped, and whether it ends the session.
-fn reply_to(alloc: Global, line: &[u8], kernel: &mut Kernel, options: Options) -> (Reply, bool)
+fn reply_to<F: Files>(
+    alloc: Global,
+    line: &[u8],
+    kernel: &mut Kernel,
+    files: &mut F,
+    options: Options,
+    meter: &mut Meter,
+) -> (Reply, bool)
     requires { length line.now ≤ 2 ^ 24 }
-    ensures answer { IsLineAnswer options kernel.old line.now (answer_of result.0) kernel.new }
+    ensures answer { IsLineAnswer options (workspace kernel.old (F.map files.old) (F.faults files.old) (F.misses files.old) (F.overlong files.old)) line.now (answer_of result.0)
+        (workspace kernel.new (F.map files.new) (F.faults files.new) (F.misses files.new) (F.overlong files.new)) }
+    ensures meter { meter.new ≡ meter.old }
     ensures ends { Decides result.1 (IsExitLine line.now) }
 {
     match read_command(line) {
         Ok(command) => {
             let ends = is_exit(&command);
-            (kernel.execute(alloc, &command, options), ends)
+            (kernel.execute(alloc, &command, files, options, meter), ends)
         }
         Err(refusal) => (Reply::Err(refusal), false),
     }
 }
 
 // What is answered to a line, if it isn't skipped, and whether it ends the session.
-fn reply_if(
+fn reply_if<F: Files>(
     alloc: Global,
     line: &[u8],
     is_long: bool,
     kernel: &mut Kernel,
+    files: &mut F,
     options: Options,
+    meter: &mut Meter,
 ) -> (Option<Reply>, bool)
     requires { is_long ≡ false → length line.now ≤ 2 ^ 24 }
-    ensures answer { (l : List ℕ) → IsKept l line.now is_long → IsAnswered options kernel.old l (option_map answer_of result.0) kernel.new }
+    ensures answer { (l : List ℕ) → IsKept l line.now is_long → IsAnswered options (workspace kernel.old (F.map files.old) (F.faults files.old) (F.misses files.old) (F.overlong files.old)) l (option_map answer_of result.0)
+        (workspace kernel.new (F.map files.new) (F.faults files.new) (F.misses files.new) (F.overlong files.new)) }
+    ensures meter { meter.new ≡ meter.old }
     ensures ends { (l : List ℕ) → IsKept l line.now is_long → Decides result.1 (IsExit l) }
 {
     if is_long {
@@ -78,7 +92,7 @@ fn reply_if(
     if trimmed(line).is_empty() {
         return (None, false);
     }
-    let (reply, ends) = reply_to(alloc, line, kernel, options);
+    let (reply, ends) = reply_to(alloc, line, kernel, files, options, meter);
     (Some(reply), ends)
 }
 
@@ -105,21 +119,32 @@ pub struct Served {
 }
 
 // Answers a line.
-fn serve<K: Sink>(
+fn serve<K: Sink, F: Files>(
     alloc: Global,
     reader: &LineReader,
     refused: bool,
     sink: &mut K,
+    files: &mut F,
     kernel: &mut Kernel,
+    meter: &mut Meter,
 ) -> Result<Served, WriteFailed>
     requires { reader.now.is_long ≡ false → vec_len reader.now.line ≤ 2 ^ 24 }
-    ensures { HasAnswered kernel.old kernel.new reader.now.line.items reader.now.is_long refused (K.written sink.old) (K.written sink.new) (K.faults sink.old) (K.faults sink.new) result }
+    ensures answered { HasAnswered (workspace kernel.old (F.map files.old) (F.faults files.old) (F.misses files.old) (F.overlong files.old)) (workspace kernel.new (F.map files.new) (F.faults files.new) (F.misses files.new) (F.overlong files.new)) reader.now.line.items reader.now.is_long refused (K.written sink.old) (K.written sink.new) (K.faults sink.old) (K.faults sink.new) result }
+    ensures meter { meter.new ≡ meter.old }
 {
     let options = Options {
         plain: false,
         strip: false,
     };
-    let (reply, ends) = reply_if(alloc, &reader.line, reader.is_long, kernel, options);
+    let (reply, ends) = reply_if(
+        alloc,
+        &reader.line,
+        reader.is_long,
+        kernel,
+        files,
+        options,
+        meter,
+    );
     match write_if(sink, &reply) {
         Ok(()) => Ok(Served {
             refused: refused | is_refused(&reply),
@@ -130,15 +155,18 @@ fn serve<K: Sink>(
 }
 
 // Reads commands to the end of the source or to EXIT, and writes a reply to each before it reads on.
-fn serve_lines<S: Source, K: Sink>(
+fn serve_lines<S: Source, K: Sink, F: Files>(
     alloc: Global,
     source: &mut S,
     sink: &mut K,
+    files: &mut F,
     kernel: &mut Kernel,
+    meter: &mut Meter,
 ) -> Status
-    ensures ran { Ran kernel.old kernel.new (S.left source.old) (S.left source.new) (S.faults source.old) (S.faults source.new)
+    ensures ran { Ran (workspace kernel.old (F.map files.old) (F.faults files.old) (F.misses files.old) (F.overlong files.old)) (workspace kernel.new (F.map files.new) (F.faults files.new) (F.misses files.new) (F.overlong files.new)) (S.left source.old) (S.left source.new) (S.faults source.old) (S.faults source.new)
         (K.written sink.old) (K.written sink.new) (K.faults sink.old) (K.faults sink.new) result }
     ensures words { result ≢ Status.BadWords }
+    ensures meter { meter.new ≡ meter.old }
 {
     let Ok(mut reader) = LineReader::new(alloc) else {
         return Status::NoMemory;
@@ -152,11 +180,13 @@ fn serve_lines<S: Source, K: Sink>(
         match end {
             LineEnd::Failed => return Status::ReadFault,
             LineEnd::Full => return Status::TooManyBytes,
-            LineEnd::EndOfScript => match serve(alloc, &reader, refused, sink, kernel) {
+            LineEnd::EndOfScript => match serve(
+                alloc, &reader, refused, sink, files, kernel, meter,
+            ) {
                 Ok(served) => return Status::Done(served.refused),
                 Err(_e) => return Status::WriteFault,
             },
-            LineEnd::Newline => match serve(alloc, &reader, refused, sink, kernel) {
+            LineEnd::Newline => match serve(alloc, &reader, refused, sink, files, kernel, meter) {
                 Ok(served) => {
                     if served.ends {
                         return Status::Done(served.refused);
@@ -184,16 +214,19 @@ fn number_of(status: Status) -> u8
 
 /// Serves a script of commands, one a line, up to its end or to EXIT, and answers the status of the program. Each reply is written before the next
 /// line is read. No word is known yet, so any word is refused before anything is read.
-pub fn run<S: Source, K: Sink>(
+pub fn run<S: Source, K: Sink, F: Files>(
     alloc: Global,
     words: &[String],
     source: &mut S,
     sink: &mut K,
+    files: &mut F,
     kernel: &mut Kernel,
+    meter: &mut Meter,
 ) -> u8
     // By status: which lines were taken, what was answered to each, and what was appended.
-    ensures ran { (status : Status) × (result ≡ number_of status) × Ran kernel.old kernel.new (S.left source.old) (S.left source.new) (S.faults source.old) (S.faults source.new)
+    ensures ran { (status : Status) × (result ≡ number_of status) × Ran (workspace kernel.old (F.map files.old) (F.faults files.old) (F.misses files.old) (F.overlong files.old)) (workspace kernel.new (F.map files.new) (F.faults files.new) (F.misses files.new) (F.overlong files.new)) (S.left source.old) (S.left source.new) (S.faults source.old) (S.faults source.new)
         (K.written sink.old) (K.written sink.new) (K.faults sink.old) (K.faults sink.new) status }
+    ensures meter { meter.new ≡ meter.old }
     ensures words { (result ≡ 2) ↔ (0 < length words.now) }
     ensures read { result ≡ 3 → Rose (S.faults source.old) (S.faults source.new) }
     ensures write { result ≡ 4 → Rose (K.faults sink.old) (K.faults sink.new) }
@@ -205,8 +238,13 @@ pub fn run<S: Source, K: Sink>(
     if !words.is_empty() {
         return number_of(Status::BadWords);
     }
-    number_of(serve_lines(alloc, source, sink, kernel))
+    number_of(serve_lines(alloc, source, sink, files, kernel, meter))
 }
+
+/// A reply that a call on a file failed has a rise of the files' count of faults to itself.
+pub fn file_faults_count()
+    ensures { FileFaultsCount }
+{}
 
 /// There is one way to cut bytes into lines.
 pub fn one_cut()

@@ -1,3 +1,4 @@
+pub mod Declaring
 pub mod Escaping
 pub mod Growing
 pub mod Ranges

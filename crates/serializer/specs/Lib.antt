@@ -1,3 +1,4 @@
--- What becomes of bytes that are written to, and what is left of a node that is partly printed.
+-- What becomes of bytes that are written to, what is in scope, and what is left of a node that is partly printed.
 pub mod Growth
 pub mod Opened
+pub mod Scopes

@@ -1,6 +1,7 @@
 //! The rows of a table as text, and nodes as XML.
 #![tactic(auto)]
 
+mod bindings;
 mod escape;
 mod node;
 mod storage;

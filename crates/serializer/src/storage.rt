@@ -1,13 +1,15 @@
 // The text of the rows of a table.
-ghost use Rattle.std.specs.Prelude.{◌≡◌, ◌+◌, ◌≤◌, ◌<◌, ◌++◌, [], ◌∷◌, length, take, drop, IsTrue, OnOk, decimal};
+ghost use Rattle.std.specs.Prelude.{◌≡◌, ◌+◌, ◌≤◌, ◌<◌, ◌++◌, [], length, OnOk, decimal};
 ghost use Rattle.tree_model.specs.Forest.{grove_of, IsFlat};
 ghost use Rattle.tree_model.specs.Rows.{line_of, lines_of, ArePlaced};
 ghost use Rattle.tree_model.specs.Printed as printed;
 ghost use Rattle.serializer.specs.Growth.{Grew};
 
 use crate::escape::{RowContent, push_byte, push_bytes, push_escaped};
+use frame_pool::Pool;
 use itoa::Buffer;
 use name_pool::NamePool;
+use node_table::NodeTable;
 use tree_model::{Kind, Name, NoMemory, Row};
 use value_heap::ValueHeap;
 
@@ -140,17 +142,14 @@ fn push_row(
     push_content(out, row.kind, names.name(row.name), heap.get(row.val))
 }
 
-/// Appends a line for each row from `from` up to and without `to`, joined by LF, with none behind the last: `pre dist size
-/// asize id kind content`, the numbers in decimal. `pre` is the row's number, counted from 0 at the first of all rows; a
-/// number beyond them names no row. In the content a backslash, LF, CR and TAB stand as `\\`, `\n`, `\r` and `\t`. After
-/// `NoMemory` a part of the text may stand behind what `out` had before.
-pub fn print_storage(
+// The rows of a range, joined by LF.
+fn push_rows(
+    out: &mut Vec<u8>,
     rows: &[Row],
     names: &NamePool,
     heap: &ValueHeap,
     from: u32,
     to: u32,
-    out: &mut Vec<u8>,
 ) -> Result<(), NoMemory>
     requires placed { ArePlaced names.now heap.now rows.now }
     requires flat { IsFlat (lines_of names.now heap.now rows.now) }
@@ -169,4 +168,25 @@ pub fn print_storage(
         pre += 1;
     }
     Ok(())
+}
+
+/// Appends a line for each row from `from` up to and without `to`, joined by LF, with none behind the last: `pre dist size
+/// asize id kind content`, the numbers in decimal. `pre` is the row's number, counted from 0 at the first of all rows; a
+/// number beyond them names no row. In the content a backslash, LF, CR and TAB stand as `\\`, `\n`, `\r` and `\t`. After
+/// `NoMemory` a part of the text may stand behind what `out` had before.
+pub fn print_storage(
+    table: &NodeTable,
+    pool: &Pool<Row>,
+    names: &NamePool,
+    heap: &ValueHeap,
+    from: u32,
+    to: u32,
+    out: &mut Vec<u8>,
+) -> Result<(), NoMemory>
+    requires placed { ArePlaced names.now heap.now table.now }
+    requires flat { IsFlat (lines_of names.now heap.now table.now) }
+    ensures text { OnOk result (out.new.items ≡ out.old.items ++ printed.range_text from to (grove_of (lines_of names.now heap.now table.now))) }
+    ensures kept { Grew out.old.items out.new.items }
+{
+    push_rows(out, table.rows(pool), names, heap, from, to)
 }

@@ -1,7 +1,9 @@
-ghost use Rattle.std.specs.Prelude.{◌<◌};
+ghost use Rattle.std.specs.Prelude.{◌≡◌, ◌<◌, ◌≤◌, ◌^◌, length, IfOk};
 
 use super::*;
+use frame_pool::Pool;
 use name_pool::NamePool;
+use node_table::NodeTable;
 use std::alloc::Global;
 use std::test::Fail;
 use tree_model::{Kind, NoMemory, Row, ValueRef};
@@ -31,6 +33,17 @@ fn heap(alloc: Global, bytes: &[u8]) -> Result<ValueHeap, NoMemory> {
     let mut heap = ValueHeap::new(alloc);
     heap.append(bytes)?;
     Ok(heap)
+}
+
+// A table of these rows.
+fn table(alloc: Global, rows: &[Row]) -> Result<NodeTable, NoMemory>
+    requires { length rows.now ≤ 2 ^ 24 }
+    ensures { IfOk result (λ table. table ≡ rows.now) }
+{
+    let mut table = NodeTable::new(alloc);
+    let rows = rows.to_vec(alloc)?;
+    table.insert_documents(&mut Pool::new(), 0, rows)?;
+    Ok(table)
 }
 
 // What stands in a buffer with these bytes once the rows of a range are printed to it. The document `d.xml` has an
@@ -72,7 +85,8 @@ fn printed(rt: &HostRuntime, before: &[u8], from: u32, to: u32) -> Result<Vec<u8
         return Err(Fail::from("other names or values"));
     }
     let mut out = before.to_vec(rt.alloc())?;
-    print_storage(&rows, &names, &heap, from, to, &mut out)?;
+    let table = table(rt.alloc(), &rows)?;
+    print_storage(&table, &Pool::new(), &names, &heap, from, to, &mut out)?;
     Ok(out)
 }
 
@@ -191,14 +205,15 @@ fn xml(rt: &HostRuntime, before: &[u8], pre: u32) -> Result<Vec<u8>, Fail>
         return Err(Fail::from("other names or values"));
     }
     let mut out = before.to_vec(rt.alloc())?;
-    print_node(&rows, &names, &heap, pre, &mut out)?;
+    let table = table(rt.alloc(), &rows)?;
+    print_node(&table, &Pool::new(), &names, &heap, pre, &mut out)?;
     Ok(out)
 }
 
 #[test]
 fn a_document_is_its_content(rt: HostRuntime) -> Result<(), Fail> {
     let all =
-        b"<r p:a=\"&amp;&lt;&gt;&quot;&#9;&#10;&#13;'\" b=\"\"><e/><p:m>x&amp;&lt;&gt;&#13;\n\"</p:m><!--a < b--><?go?><?go on?></r>";
+        b"<r xmlns:p=\"u\" p:a=\"&amp;&lt;&gt;&quot;&#9;&#10;&#13;'\" b=\"\"><e/><p:m>x&amp;&lt;&gt;&#13;\n\"</p:m><!--a < b--><?go?><?go on?></r>";
     assert_eq!(rt; xml(&rt, b"", 0)?.as_slice(), all.as_slice());
     assert_eq!(rt; xml(&rt, b"", 1)?.as_slice(), all.as_slice());
     Ok(())
@@ -210,12 +225,99 @@ fn nodes_behind_other_bytes(rt: HostRuntime) -> Result<(), Fail> {
     assert_eq!(rt; xml(&rt, b".", 4)?.as_slice(), b".<e/>".as_slice());
     assert_eq!(rt;
         xml(&rt, b".", 5)?.as_slice(),
-        b".<p:m>x&amp;&lt;&gt;&#13;\n\"</p:m>".as_slice()
+        b".<p:m xmlns:p=\"u\">x&amp;&lt;&gt;&#13;\n\"</p:m>".as_slice()
     );
     assert_eq!(rt;
         xml(&rt, b".", 6)?.as_slice(),
         b".x&amp;&lt;&gt;&#13;\n\"".as_slice()
     );
     assert_eq!(rt; xml(&rt, b".", 9)?.as_slice(), b".<?go on?>".as_slice());
+    Ok(())
+}
+
+// The text of a node. The document has an element `r` in the namespace `d"`, with an attribute `p:x`. In it stand an element
+// `p:c`, in which is an empty element `e` in no namespace, and two empty elements `q:s`.
+fn declared(rt: &HostRuntime, pre: u32) -> Result<Vec<u8>, Fail>
+    requires { pre < 7 }
+{
+    let rows = [
+        Row {
+            kind: Kind::Doc,
+            dist: 0,
+            size: 7,
+            ..LEAF
+        },
+        Row {
+            name: 1,
+            size: 6,
+            asize: 2,
+            ..LEAF
+        },
+        Row {
+            kind: Kind::Attr,
+            name: 2,
+            val: ValueRef { at: 0, len: 1 },
+            ..LEAF
+        },
+        Row {
+            name: 3,
+            dist: 2,
+            size: 2,
+            ..LEAF
+        },
+        Row { name: 4, ..LEAF },
+        Row {
+            name: 5,
+            dist: 4,
+            ..LEAF
+        },
+        Row {
+            name: 5,
+            dist: 5,
+            ..LEAF
+        },
+    ];
+    let names = pool(
+        rt.alloc(),
+        &[
+            ("", "", ""),
+            ("d\"", "", "r"),
+            ("u", "p", "x"),
+            ("u", "p", "c"),
+            ("", "", "e"),
+            ("w", "q", "s"),
+        ],
+    )?;
+    let heap = heap(rt.alloc(), b"v")?;
+    if names.len() != 6 || heap.mark() != 1 {
+        return Err(Fail::from("other names or values"));
+    }
+    let mut out = Vec::new(rt.alloc());
+    let table = table(rt.alloc(), &rows)?;
+    print_node(&table, &Pool::new(), &names, &heap, pre, &mut out)?;
+    Ok(out)
+}
+
+#[test]
+fn a_prefix_is_declared_where_it_is_not_bound(rt: HostRuntime) -> Result<(), Fail> {
+    assert_eq!(rt;
+        declared(&rt, 0)?.as_slice(),
+        b"<r xmlns=\"d&quot;\" xmlns:p=\"u\" p:x=\"v\"><p:c><e xmlns=\"\"/></p:c><q:s xmlns:q=\"w\"/><q:s xmlns:q=\"w\"/></r>".as_slice()
+    );
+    Ok(())
+}
+
+#[test]
+fn a_node_declares_what_it_needs_alone(rt: HostRuntime) -> Result<(), Fail> {
+    assert_eq!(rt; declared(&rt, 2)?.as_slice(), b"p:x=\"v\"".as_slice());
+    assert_eq!(rt;
+        declared(&rt, 3)?.as_slice(),
+        b"<p:c xmlns:p=\"u\"><e/></p:c>".as_slice()
+    );
+    assert_eq!(rt; declared(&rt, 4)?.as_slice(), b"<e/>".as_slice());
+    assert_eq!(rt;
+        declared(&rt, 5)?.as_slice(),
+        b"<q:s xmlns:q=\"w\"/>".as_slice()
+    );
     Ok(())
 }

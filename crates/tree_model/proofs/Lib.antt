@@ -1,5 +1,4 @@
 pub mod Numbering
-pub mod Soundness
 pub mod Standing
 pub mod XmlUtf8
 pub mod XmlSoundTexts
@@ -8,3 +7,4 @@ pub mod XmlSoundScopes
 pub mod XmlSoundForests
 pub mod XmlSoundness
 pub mod Tables
+pub mod Looseness

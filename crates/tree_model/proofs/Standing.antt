@@ -4,7 +4,7 @@ use Rattle.std.specs.Prelude.{◌⊎◌, ◌||◌, filter, nat_eq}
 use Rattle.std.specs.List.{Contains, list_any, slice_index_or, range_with_len}
 use Rattle.std.proofs.lemmas.List.{map-append}
 use Rattle.tree_model.specs.Forest.{Forest, none, tree, count, Line, raise, attr_lines, lines}
-use Rattle.tree_model.specs.Nodes.{Node, attr_nodes, nodes_from, nodes, tops_from, tops, children, is_among, in_document_order}
+use Rattle.tree_model.specs.Nodes.{Node, attr_nodes, nodes_from, nodes, tops_from, children, is_among, in_document_order}
 use Rattle.tree_model.specs.Trees.{length-lines, length-attr_lines}
 
 -- ---- elements of lists

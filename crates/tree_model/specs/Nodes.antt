@@ -1,5 +1,5 @@
 -- The nodes of trees, each with its place and what it has below it, and the axes between them.
-use Rattle.std.specs.Prelude.{ℕ, suc, ◌+◌, Bool, nat_eq, List, [], ◌∷◌, ◌++◌, length, filter}
+use Rattle.std.specs.Prelude.{ℕ, suc, ◌+◌, Bool, nat_eq, List, [], ◌∷◌, ◌++◌, length, map, filter, Option, Some, None}
 use Rattle.std.specs.List.{list_any}
 use Rattle.tree_model.specs.Forest.{Forest, none, tree, count}
 
@@ -45,3 +45,12 @@ is_among found node = list_any (λ other. nat_eq other.place node.place) found
 -- those nodes, in document order and each once
 abbrev pub in_document_order : {A : Type 0} → Forest A → List (Node A) → List (Node A)
 in_document_order f found = filter (is_among found) (nodes f)
+
+-- the places of the parents of all nodes, in document order; roots have none (the axis parent)
+abbrev pub parents_from : {A : Type 0} → Option ℕ → ℕ → Forest A → List (Option ℕ)
+parents_from up n none = []
+parents_from up n (tree a attrs kids rest) =
+    up ∷ (map (λ x. Some n) attrs ++ (parents_from (Some n) (n + (1 + length attrs)) kids ++ parents_from up (n + (1 + length attrs + count kids)) rest))
+
+abbrev pub parent_places : {A : Type 0} → Forest A → List (Option ℕ)
+parent_places f = parents_from None 0 f

@@ -194,3 +194,35 @@ pub record KeepsRules (f : Forest Label) (next : ℕ) : Type 0 where
 pub record IsSound (f : Forest Label) (next : ℕ) : Type 0 where
   pub rules : KeepsRules f next
   pub few : count f ≤ 2 ^ 24
+
+-- ---- while an update is applied
+
+-- a text may be empty
+abbrev pub is_loose_node : Kind → Name → List ℕ → Bool
+is_loose_node Doc name value = is_good_node Doc name value
+is_loose_node Elem name value = is_good_node Elem name value
+is_loose_node Text name value = has_no_name name
+is_loose_node Attr name value = is_good_node Attr name value
+is_loose_node Comm name value = is_good_node Comm name value
+is_loose_node Pi name value = is_good_node Pi name value
+
+abbrev pub is_loose_label : Label → Bool
+is_loose_label label = is_loose_node label.kind label.name label.value && are_chars label.name.uri && are_chars label.value
+
+-- only an element has attributes; their names may be the same, and a prefix may have two uris
+abbrev pub bears : Label → List Label → Bool
+bears label [] = true
+bears label (a ∷ attrs) = is_elem label && list_all is_attr (a ∷ attrs)
+
+-- what holds of documents whose update isn't complete: texts may also be neighbours, and two documents may have one path
+pub record IsLoose (f : Forest Label) (next : ℕ) : Type 0 where
+  pub roots : AllTops is_doc f
+  pub places : Kept fits bears f
+  pub nodes : list_all is_loose_label (walk f) ≡ true
+  pub ids_once : (id : ℕ) → with_id_count id (walk f) ≤ 1
+  pub ids_below : All (λ (label : Label). label.id < next) (walk f)
+  pub few : count f ≤ 2 ^ 24
+
+-- documents that keep all rules keep these
+abbrev pub SoundIsLoose : Type 0
+SoundIsLoose = (f : Forest Label) (next : ℕ) → IsSound f next → IsLoose f next

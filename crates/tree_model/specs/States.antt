@@ -1,9 +1,9 @@
 -- What the commands of a script work on.
-use Rattle.std.specs.Prelude.{◌≡◌, ℕ, Bool, true, not, nat_le, ◌||◌, ◌&&◌, ◌==◌, List, [], ◌∷◌, ◌++◌, filter, length, codes, Option, Some, None}
+use Rattle.std.specs.Prelude.{◌≡◌, ℕ, Bool, true, not, nat_le, ◌||◌, ◌&&◌, ◌==◌, List, [], ◌∷◌, ◌++◌, filter, length, codes, Option, Some, None, if◌then◌else◌}
 use Rattle.std.specs.List.{list_all, slice_get}
 use Rattle.std.specs.Str.{bytes_eq}
 use Rattle.std.specs.Char.{is_ascii_alphanumeric}
-use Rattle.tree_model.specs.Forest.{Forest, count}
+use Rattle.tree_model.specs.Forest.{Forest, none, tree, count}
 use Rattle.tree_model.specs.Labels.{Label}
 
 -- a database: its name, the next id, its documents, and which indexes it has
@@ -34,6 +34,11 @@ is_base_name name = nat_le 1 (length name) && nat_le (length name) 64 && list_al
 -- the path of a document that is given as XML text
 abbrev pub default_path : List ℕ → List ℕ
 default_path name = name ++ codes ".xml"
+
+-- the document under a path, by itself
+abbrev pub document_under : List ℕ → Forest Label → Option (Forest Label)
+document_under path none = None
+document_under path (tree label attrs kids rest) = if bytes_eq label.value path then Some (tree label attrs kids none) else document_under path rest
 
 -- a new database with these documents, whose ids begin at 0, and with both indexes
 abbrev pub new_base : List ℕ → Forest Label → Base

@@ -5,7 +5,7 @@ use Rattle.std.specs.Option.{option_map_or, is_none}
 use Rattle.std.specs.Str.{bytes_eq}
 use Rattle.std.specs.Char.{encode_utf8}
 use Rattle.tree_model.specs.Forest.{Forest, none, tree, join}
-use Rattle.tree_model.specs.Labels.{Label, doc_label, elem_label, text_label, local_name, numbered}
+use Rattle.tree_model.specs.Labels.{Label, doc_label, text_label, local_name, numbered}
 use Rattle.tree_model.specs.Sound.{is_empty, xml_uri, xmlns_uri}
 use Rattle.tree_model.specs.XmlChars.{is_space, has_colon, before_colon, behind_colon, prefix_of, local_of}
 use Rattle.tree_model.specs.XmlSource.{Part, run, entity, decimal, hexadecimal, part_text, Attr, attr_head, attr_source, Content, done, element, empty, part, cdata, comm, pi, start_source, close_source, cdata_source, comm_source, pi_source, content_text, Source, before_root}

@@ -1,12 +1,12 @@
 -- What may be answered to the reading of a text: a tree, or its first fault.
-use Rattle.std.specs.Prelude.{◌≡◌, ℕ, ◌^◌, ◌<◌, ◌≤◌, Bool, false, List, [], ◌∷◌, ◌++◌, length, take, map, codes, Option, Some, None}
+use Rattle.std.specs.Prelude.{◌≡◌, ℕ, ◌^◌, ◌<◌, ◌≤◌, Bool, false, List, [], ◌∷◌, ◌++◌, length, take, map, codes, Option, Some}
 use Rattle.std.specs.Str.{IsUtf8, IsValidUpTo, bytes_eq}
 use Rattle.std.specs.Char.{to_ascii_lowercase}
 use Rattle.tree_model.specs.Forest.{Forest, count}
 use Rattle.tree_model.specs.Labels.{Label}
 use Rattle.tree_model.specs.XmlSource.{Content, content_text, Setting, setting_text, Decl, decl_text, if_text, Doctype, doctype_head, mark_text, Source, source_text}
 use Rattle.tree_model.specs.XmlGood.{IsMisc, IsGood, IfThere, IsDecl, IsDoctype, AreChars, IsSource}
-use Rattle.tree_model.specs.XmlMeaning.{Fault, unknown_entity, bad_namespace, source_faults, source_tree}
+use Rattle.tree_model.specs.XmlMeaning.{Fault, source_faults, source_tree}
 
 -- ---- faults of the whole text
 

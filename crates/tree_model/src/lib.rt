@@ -7,7 +7,7 @@ mod row;
 mod text;
 
 pub use code::{Code, Refusal, code_text};
-pub use laws::{equal_flattenings, read_trees_are_sound, spelled_trees_are_sound};
+pub use laws::{equal_flattenings, sound_documents_are_loose, spelled_trees_are_sound};
 pub use row::{Kind, Row, ValueRef};
 pub use text::{Name, NoMemory, Text};
 

@@ -5,6 +5,8 @@ mod files;
 mod streams;
 mod words;
 
+use files::FileSystem;
+use frame_pool::Meter;
 use kernel_session::{Kernel, run};
 use std::io;
 use std::process::ExitCode;
@@ -18,7 +20,17 @@ fn main(rt: HostRuntime) -> ExitCode {
     };
     let mut source = Reading::new(rt.reader());
     let mut sink = Writing::new(io::writer(&rt));
+    let mut files = FileSystem::new(&rt);
     let mut kernel = Kernel::new(rt.alloc());
-    let status = run(rt.alloc(), &words, &mut source, &mut sink, &mut kernel);
+    let mut meter = Meter::new();
+    let status = run(
+        rt.alloc(),
+        &words,
+        &mut source,
+        &mut sink,
+        &mut files,
+        &mut kernel,
+        &mut meter,
+    );
     ExitCode::from(status)
 }

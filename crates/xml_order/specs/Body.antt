@@ -1,6 +1,6 @@
 -- A document behind its byte order mark and its XML declaration, and its pieces.
 use Rattle.std.specs.Prelude.{ℕ, List, [], ◌∷◌, ◌++◌, Option, Some, None}
-use Rattle.tree_model.specs.XmlSource.{Content, content_text, Doctype, doctype_text, if_text, Source, Decl}
+use Rattle.tree_model.specs.XmlSource.{Content, content_text, Doctype, doctype_text, if_text, Source}
 use Rattle.tree_model.specs.XmlGood.{IfThere, IsDoctype, IsBehind, IsGood, IsMisc, IsRoot}
 use Rattle.xml_pieces.specs.Tokens.{Token, doctype_token, tokens}
 

@@ -1,10 +1,10 @@
 -- Expanded names as the keys of a set.
-use Rattle.std.proofs.Common.{◌≡◌, ℕ, ◌+◌, ◌<◌, ◌≤◌, Bool, true, false, List, [], ◌∷◌, ◌++◌, length, map, reverse, take, drop, get_or, ◌||◌, ◌&&◌, ◌==◌, not, refl, sym, ap, ◌∙◌, subst}
+use Rattle.std.proofs.Common.{◌≡◌, ℕ, ◌+◌, ◌<◌, Bool, true, false, List, [], ◌∷◌, ◌++◌, length, map, reverse, take, drop, get_or, ◌||◌, ◌&&◌, ◌==◌, not, refl, sym, ap, ◌∙◌, subst}
 use Rattle.std.specs.Prelude.{if◌then◌else◌}
 use Rattle.std.specs.List.{list_any}
 use Rattle.std.specs.Str.{bytes_eq}
 use Rattle.std.proofs.lemmas.Bool.{false≢true}
-use Rattle.std.proofs.lemmas.List.{map_more, map_push, drop_all}
+use Rattle.std.proofs.lemmas.List.{map_more, map_push}
 use Rattle.tree_model.specs.XmlMeaning.{is_pair_in, has_twice}
 use Rattle.xml_rows.specs.Known.{Key, is_same_key, key_of, AreKeys}
 use Rattle.xml_rows.specs.Numbers.{uri_at}

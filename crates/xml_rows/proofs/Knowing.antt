@@ -1,17 +1,16 @@
 -- The names that were met, as more are met.
-use Rattle.std.proofs.Common.{◌≡◌, ℕ, ◌<◌, Bool, true, false, List, [], length, Option, Some, None, cond, refl, sym, ap, ◌∙◌, subst, arith, ◌==◌, ◌&&◌, ◌||◌, not}
+use Rattle.std.proofs.Common.{◌≡◌, ℕ, Bool, true, false, List, [], Option, Some, None, cond, refl, sym, ap, ◌∙◌, subst, arith, ◌==◌, ◌&&◌, ◌||◌, not}
 use Rattle.std.specs.Option.{IfSome}
 use Rattle.std.specs.Str.{bytes_eq, IsUtf8}
 use Rattle.std.proofs.lemmas.Bool.{and_parts}
 use Rattle.std.proofs.lemmas.Bool.Decides.{Decides-eqb}
 use Rattle.std.proofs.lemmas.Slice.Eq.{bytes_eq-Decides}
 use Rattle.tree_model.specs.Labels.{local_name}
-use Rattle.tree_model.specs.Rows.{name_at}
 use Rattle.tree_model.specs.XmlChars.{is_name_run, is_xml_ncname, is_xml_qname, has_colon, before_colon, prefix_of, local_of}
 use Rattle.tree_model.specs.declared.text.Name.{Name}
 use Rattle.tree_model.proofs.XmlUtf8.{text_ncname, text_nil}
 use Rattle.xml_rows.specs.Known.{Key, is_same_key, AreKnown, AreNumbered}
-use Rattle.xml_rows.specs.Numbers.{Begins, uri_at, name_in, IsNumber}
+use Rattle.xml_rows.specs.Numbers.{Begins, name_in, IsNumber}
 use Rattle.xml_rows.specs.Words.{Bytes}
 use Rattle.xml_rows.proofs.Growing.{begins_length, begins_at}
 

@@ -1,8 +1,8 @@
 -- The scopes of the code, as prefixes are bound and elements end.
-use Rattle.std.proofs.Common.{◌≡◌, ℕ, ◌≤◌, List, [], ◌∷◌, ◌++◌, length, map, reverse, take, refl, sym, ap, ◌∙◌, subst, arith, length-append}
+use Rattle.std.proofs.Common.{◌≡◌, ℕ, ◌≤◌, List, [], ◌∷◌, ◌++◌, length, reverse, take, refl, sym, ap, ◌∙◌, subst, arith, length-append}
 use Rattle.std.proofs.lemmas.List.{reverse-append, take-take, take_at, take_all}
 use Rattle.xml_rows.specs.Leaving.{outer_less}
-use Rattle.xml_rows.specs.Scoping.{numbering_of, scope_of, outer_of, AreNested}
+use Rattle.xml_rows.specs.Scoping.{scope_of, outer_of, AreNested}
 use Rattle.xml_rows.specs.declared.scope.Bound.{Bound}
 
 pub nested_more : (len more : ℕ) (lens : List ℕ) → len ≤ more → AreNested len lens → AreNested more lens

@@ -13,7 +13,7 @@ use Rattle.tree_model.specs.XmlMeaning.{Pair, Scope, Fault, unknown_entity, bad_
 use Rattle.tree_model.specs.XmlGood.{number_from}
 use Rattle.tree_model.specs.XmlSource.{run, entity, decimal, hexadecimal}
 use Rattle.xml_pieces.specs.Tokens.{part_token}
-use Rattle.xml_rows.specs.BuilderView.{IsTag, IsReady, IsTidy}
+use Rattle.xml_rows.specs.BuilderView.{IsTag, IsReady}
 use Rattle.xml_rows.specs.Leaving.{inner_of, outer_less}
 use Rattle.xml_rows.specs.Scoping.{Numbering, scope_in, scopes_in, AreUris, EachAreUris}
 use Rattle.xml_rows.specs.Numbers.{Begins}
@@ -22,8 +22,7 @@ use Rattle.xml_rows.specs.Values.{Gathered}
 use Rattle.xml_rows.specs.Work as work
 use Rattle.xml_rows.specs.Work.{Work, tag_fault, or_first, first_of, gathered_more, less, outer_scope, with_leaf, works_at, in_content}
 use Rattle.xml_rows.specs.declared.parts.Doing as code
-use Rattle.xml_rows.specs.declared.parts.Doing.TheVariants.{Content, InTag, InValue}
-use Rattle.xml_rows.specs.declared.parts.Parts.{Parts}
+use Rattle.xml_rows.specs.declared.parts.Doing.TheVariants.{Content, InTag}
 use Rattle.xml_rows.specs.declared.parts.Tag.{Tag}
 use Rattle.xml_rows.proofs.Resolving.{lines_begun}
 use Rattle.xml_rows.proofs.Scoped.{scopes_grown, each_grown}

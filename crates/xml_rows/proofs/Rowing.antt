@@ -5,7 +5,7 @@ use Rattle.tree_model.specs.Rows.{line_of, lines_of, ArePlaced}
 use Rattle.tree_model.specs.declared.row.Row.{Row}
 use Rattle.tree_model.specs.declared.text.Name.{Name}
 use Rattle.tree_model.proofs.Tables.{placed_sized, lines_length}
-use Rattle.xml_rows.specs.Work.{sized, ended, less}
+use Rattle.xml_rows.specs.Work.{sized, ended}
 
 -- ---- a row at the end
 

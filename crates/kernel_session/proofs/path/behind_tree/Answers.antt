@@ -4,8 +4,8 @@ use Rattle.kernel_session.proofs.path.behind_tree.Goals as goal
 
 pub overflow_add-result : goal.overflow_add-result
 overflow_add-result c =
-    let t = row_turn c.args.built.now c.args.at c.args.end c.index.result.now c.requires.order c.requires.within c.requires.trees c.index.ensures in
+    let t = row_turn c.args.table.now c.args.at c.args.end c.row.result c.requires.order c.requires.within c.requires.trees c.row.ensures in
     omega (arith, t.within)
 
 pub returns : goal.returns
-returns c = row_turn c.args.built.now c.args.at c.args.end c.index.result.now c.requires.order c.requires.within c.requires.trees c.index.ensures
+returns c = row_turn c.args.table.now c.args.at c.args.end c.row.result c.requires.order c.requires.within c.requires.trees c.row.ensures

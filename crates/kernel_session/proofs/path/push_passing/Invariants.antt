@@ -1,5 +1,5 @@
 use Rattle.std.proofs.Common.{◌≡◌, ◌-◌, ◌≤◌, ◌++◌}
-use Rattle.doc_import.specs.Imported.{built_lines}
+use Rattle.kernel_session.specs.Tables.{table_lines}
 use Rattle.kernel_session.specs.Places.{AreTrees, passing_between}
 use Rattle.kernel_session.specs.QueryView.{node_test}
 use Rattle.kernel_session.proofs.path.push_passing.Given as goal
@@ -7,8 +7,8 @@ use Rattle.kernel_session.proofs.path.push_passing.Given as goal
 abbrev pub invariant-loop-at : goal.invariant-loop-at
 invariant-loop-at l = record {
   order : l.at ≤ l.end;
-  trees : AreTrees (built_lines l.built) l.at l.end;
-  sofar : l.places.items ++ passing_between (node_test l.test) (built_lines l.built) l.at l.end ≡ l.fn.places.items ++ passing_between (node_test l.test) (built_lines l.built) l.from l.end;
+  trees : AreTrees (table_lines l.table) l.at l.end;
+  sofar : l.places.items ++ passing_between (node_test l.test) (table_lines l.table) l.at l.end ≡ l.fn.places.items ++ passing_between (node_test l.test) (table_lines l.table) l.from l.end;
 }
 
 abbrev pub decreases-loop-at : goal.decreases-loop-at

@@ -8,15 +8,21 @@ returns-in-Ok g c =
     let answered = rw c.deref.ensures.value at c.reply_if-reply.ensures in
     let written = rw c.in-Ok.is at c.write_if.ensures in
     record {
-      answer = option_map answer_of c.reply_if-reply.result.0;
-      is = answered.answer;
-      later = written.later;
-      ok = (written.ok, ap (λ x. c.args.refused || x) c.is_refused.ensures, answered.ends);
-      err = tt;
+      answered = record {
+        answer = option_map answer_of c.reply_if-reply.result.0;
+        is = answered.answer;
+        later = written.later;
+        ok = (written.ok, ap (λ x. c.args.refused || x) c.is_refused.ensures, answered.ends);
+        err = tt;
+      };
+      meter = answered.meter;
     }
 
 pub returns : goal.returns
 returns g c =
     let answered = rw c.deref.ensures.value at c.reply_if-reply.ensures in
     let written = rw c.in-Err.is at c.write_if.ensures in
-    record { answer = option_map answer_of c.reply_if-reply.result.0; is = answered.answer; later = written.later; ok = tt; err = written.err }
+    record {
+      answered = record { answer = option_map answer_of c.reply_if-reply.result.0; is = answered.answer; later = written.later; ok = tt; err = written.err };
+      meter = answered.meter;
+    }

@@ -1,0 +1,2 @@
+-- What the calls of a table do.
+pub mod Tables

@@ -1,0 +1,2 @@
+-- Printed documents as the productions of XML cut them.
+pub mod Cut
