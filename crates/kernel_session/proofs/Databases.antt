@@ -2,7 +2,7 @@
 use Rattle.std.proofs.Common.{◌≡◌, ℕ, suc, ◌+◌, ◌≤◌, ◌^◌, Bool, true, false, List, [], ◌∷◌, ◌++◌, length, Option, Some, None, Result, Ok, Err, refl, sym, ap, ap₂, ◌∙◌, subst, arith}
 use Rattle.std.specs.Prelude.{IfOk}
 use Rattle.std.proofs.lemmas.List.{length-map}
-use Rattle.tree_model.specs.Forest.{Forest, none, tree, Line, count, join, grove_of}
+use Rattle.tree_model.specs.Forest.{Forest, none, tree, count, join, grove_of}
 use Rattle.tree_model.specs.Labels.{Label, doc_label, with_id, numbered_attrs, numbered, with_path}
 use Rattle.tree_model.specs.Rows.{line_of, lines_of}
 use Rattle.tree_model.specs.Sound.{KeepsRules, IsSound, is_path}
@@ -18,17 +18,16 @@ use Rattle.doc_import.specs.declared.whole_text.Built.{Built}
 use Rattle.doc_store.specs.Stored.{Stored, base_of, stored_lines, IsKept, Branched, empty_at, branch_at, branch_forest, committed}
 use Rattle.std.specs.Fmt.{decimal}
 use Rattle.tree_model.specs.Forest.{top_count}
-use Rattle.tree_model.specs.Nodes.{tops_from}
+use Rattle.tree_model.specs.Nodes.{tops, tops_from}
 use Rattle.tree_model.specs.Printed.{base_text}
 use Rattle.std.specs.declared.alloc.AllocError.{AllocError}
 use Rattle.outer_io.specs.Files.{Seen}
 use Rattle.tree_model.specs.declared.code.Refusal.{Refusal}
 use Rattle.kernel_session.specs.Commands.{Input, path_of_input}
 use Rattle.kernel_session.specs.Databases.{IsRead, IsOne, IsNew, IsDocument}
-use Rattle.kernel_session.specs.Places.{places_of, tops_between}
-use Rattle.kernel_session.specs.Tables.{IsTable, table_lines, table_forest}
+use Rattle.axis_cursor.specs.Trees.{places_of}
+use Rattle.kernel_session.specs.Tables.{table_lines}
 use Rattle.kernel_session.specs.declared.table.Table.{Table}
-use Rattle.kernel_session.proofs.ChildSteps.{all_tops}
 
 -- ---- numbers of nodes
 
@@ -150,10 +149,8 @@ length-tops : (n : ℕ) (f : Forest Label) → length (places_of (tops_from n f)
 length-tops n none = refl
 length-tops n (tree a attrs kids rest) = ap suc (length-tops (n + (1 + length attrs + count kids)) rest)
 
-pub documents_counted : (table : Table) (d : Stored) (places : List ℕ) → IsTable table → table_lines table ≡ stored_lines d → places ≡ tops_between (table_lines table) 0 (length table.rows.now)
-    → length places ≡ top_count (base_of d).documents
-documents_counted table d places h same are =
-    ap length (are ∙ all_tops table (length table.rows.now) h refl) ∙ length-tops 0 (table_forest table) ∙ ap (λ (ls : List (Line Label)). top_count (grove_of ls)) same
+pub documents_counted : (d : Stored) (places : List ℕ) → places ≡ places_of (tops (base_of d).documents) → length places ≡ top_count (base_of d).documents
+documents_counted d places are = ap length are ∙ length-tops 0 (base_of d).documents
 
 -- the line of a database by its name and numbers
 pub line_text : (d : Stored) (n len : ℕ) → IsKept d → n ≡ top_count (base_of d).documents → len ≡ length d.rows → base_text (base_of d) ≡ d.name ++ (32 ∷ (decimal n ++ (32 ∷ decimal len)))

@@ -5,6 +5,8 @@ use Rattle.std.proofs.lemmas.List.Concat.{flat_map-append}
 use Rattle.std.proofs.lemmas.List.Folds.{list_any-append}
 use Rattle.std.specs.Bool.{Decides}
 use Rattle.std.proofs.lemmas.Bool.{false≢true}
+use Rattle.frame_pool.specs.Meters.{HasRead}
+use Rattle.frame_pool.specs.declared.meter.Meter.{Meter}
 use Rattle.outer_io.specs.Outer.{Rose}
 use Rattle.kernel_session.specs.Lines.{IsOneLine, ReadsLine, ending}
 use Rattle.kernel_session.specs.declared.command.Options.{Options}
@@ -18,6 +20,16 @@ use Rattle.kernel_session.specs.declared.lines.LineEnd.TheVariants.{Newline, End
 use Rattle.kernel_session.specs.declared.session.Status.TheVariants.{Done, WriteFault, NoMemory}
 use Rattle.kernel_session.proofs.Streams.{prepend_nil, prepend_append}
 use Rattle.kernel_session.proofs.Written.{append_nil, append_more}
+
+-- ---- rows that were read
+
+pub read_none : (m : Meter) → HasRead m m
+read_none m = record { rows = omega arith; frames = refl }
+
+pub read_then : (a b c : Meter) → HasRead a b → HasRead b c → HasRead a c
+read_then a b c h k = record { rows = omega (arith, h.rows, k.rows); frames = k.frames ∙ h.frames }
+
+-- ---- lines
 
 lines_more : (ls : List (List ℕ)) (l : List ℕ) → AreLines ls → IsOneLine l → AreLines (ls ++ l ∷ [])
 lines_more [] l h one = (one, tt)

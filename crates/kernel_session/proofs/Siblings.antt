@@ -1,42 +1,28 @@
 -- Trees in the middle of lines, one after the other.
-use Rattle.std.proofs.Common.{◌≡◌, ℕ, ◌+◌, ◌-◌, ◌<◌, ◌≤◌, Bool, true, false, cond, List, [], ◌∷◌, ◌++◌, length, take, drop, get_or, refl, sym, ap, ◌∙◌, subst, arith, append-nil, append_assoc, length-append, take_at, drop_at}
-use Rattle.std.specs.Prelude.{filter}
+use Rattle.std.proofs.Common.{◌≡◌, ℕ, ◌+◌, ◌-◌, ◌<◌, ◌≤◌, List, [], ◌∷◌, ◌++◌, length, take, drop, get_or, sym, ap, ◌∙◌, subst, arith, append-nil, append_assoc, length-append, take_at, drop_at, refl}
 use Rattle.std.proofs.lemmas.List.{get_or_at}
+use Rattle.axis_cursor.specs.Trees.{places_of}
 use Rattle.tree_model.specs.Forest.{Forest, none, tree, count, Line, raise, attr_lines, lines, read_trees}
 use Rattle.tree_model.specs.Labels.{Label}
-use Rattle.tree_model.specs.Nodes.{Node, tops_from}
-use Rattle.tree_model.specs.Paths.{NodeTest, passes}
+use Rattle.tree_model.specs.Nodes.{tops_from}
 use Rattle.tree_model.specs.Trees.{length-lines, length-attr_lines, read-lines}
-use Rattle.kernel_session.specs.Places.{places_of, AreTrees, trees_between, tops_between, passing_between, passes_at, first_passes, place_if, Turn}
+use Rattle.kernel_session.specs.Places.{AreTreesBetween, trees_between, tops_between, Turn}
 
 -- what the lines of trees say is those trees
-between_is : (ls : List (Line Label)) (at end : ℕ) (w : AreTrees ls at end) → trees_between ls at end ≡ w.trees
+between_is : (ls : List (Line Label)) (at end : ℕ) (w : AreTreesBetween ls at end) → trees_between ls at end ≡ w.trees
 between_is ls at end w =
     let own : List (Line Label) = lines w.dist w.trees in
     let number : length own ≡ end - at = omega (arith, w.ends, length-lines w.dist w.trees) in
     let from : drop at ls ≡ own ++ w.behind = ap (drop at) w.are ∙ drop_at w.before (own ++ w.behind) at w.starts in
     ap (read_trees (end - at)) (ap (take (end - at)) from ∙ take_at own w.behind (end - at) number) ∙ read-lines (end - at) w.dist w.trees (omega (arith, w.ends))
 
-pub tops_are : (ls : List (Line Label)) (at end : ℕ) (w : AreTrees ls at end) → tops_between ls at end ≡ places_of (tops_from at w.trees)
+pub tops_are : (ls : List (Line Label)) (at end : ℕ) (w : AreTreesBetween ls at end) → tops_between ls at end ≡ places_of (tops_from at w.trees)
 unfolding tops_between
 tops_are ls at end w = ap (λ f. places_of (tops_from at f)) (between_is ls at end w)
-
-pub passing_are : (test : NodeTest) (ls : List (Line Label)) (at end : ℕ) (w : AreTrees ls at end)
-    → passing_between test ls at end ≡ places_of (filter (λ (node : Node Label). passes test node.label) (tops_from at w.trees))
-unfolding passing_between
-passing_are test ls at end w = ap (λ f. places_of (filter (λ (node : Node Label). passes test node.label) (tops_from at f))) (between_is ls at end w)
 
 -- the line of a node by its place
 pub line_there : (ls before : List (Line Label)) (line : Line Label) (behind : List (Line Label)) (at : ℕ) (d : Line Label) → ls ≡ before ++ line ∷ behind → length before ≡ at → get_or ls at d ≡ line
 line_there ls before line behind at d are starts = ap (λ l. get_or l at d) are ∙ get_or_at before line behind d at starts
-
-there_passes : (test : NodeTest) (ls before : List (Line Label)) (line : Line Label) (behind : List (Line Label)) (at : ℕ) → ls ≡ before ++ line ∷ behind → length before ≡ at → passes_at test ls at ≡ passes test line.label
-unfolding passes_at
-there_passes test ls before line behind at are starts = ap (first_passes test) (ap (drop at) are ∙ drop_at before (line ∷ behind) at starts)
-
-picked : (b : Bool) (place : ℕ) (node : Node Label) (more : List (Node Label)) → node.place ≡ place → places_of (cond b (node ∷ more) more) ≡ place_if b place ++ places_of more
-picked true place node more e = ap (λ n. n ∷ places_of more) e
-picked false place node more e = refl
 
 turn_of : (ls : List (Line Label)) (at end : ℕ) (trees : Forest Label) (before : List (Line Label)) (dist : ℕ) (behind : List (Line Label)) → ls ≡ before ++ (lines dist trees ++ behind) → length before ≡ at → at + count trees ≡ end
     → at < end → (line : Line Label) → line ≡ get_or ls at line → Turn ls at end (at + line.size)
@@ -47,10 +33,6 @@ turn_of ls at end (tree a attrs kids rest) before dist behind are starts ends lt
       within = omega arith;
       trees = after;
       tops = tops_are ls at end now ∙ ap (λ l. at ∷ l) (sym (tops_are ls next end after));
-      passing = λ test. passing_are test ls at end now
-          ∙ picked (passes test a) at (record { place = at; label = a; attrs = attrs; kids = kids }) (filter (λ (node : Node Label). passes test node.label) (tops_from next rest)) refl
-          ∙ ap (λ b. place_if b at ++ places_of (filter (λ (node : Node Label). passes test node.label) (tops_from next rest))) (sym (there_passes test ls before own more at whole starts))
-          ∙ ap (λ l. place_if (passes_at test ls at) at ++ l) (sym (passing_are test ls next end after));
     })
   where
     own : Line Label
@@ -77,10 +59,10 @@ turn_of ls at end (tree a attrs kids rest) before dist behind are starts ends lt
     there : get_or ls at line ≡ own
     there = line_there ls before own more at line whole starts
 
-    now : AreTrees ls at end
+    now : AreTreesBetween ls at end
     now = record { trees = tree a attrs kids rest; before = before; dist = dist; behind = behind; are = are; starts = starts; ends = ends }
 
-    after : AreTrees ls next end
+    after : AreTreesBetween ls next end
     after = record {
       trees = rest;
       before = before ++ own ∷ (al ++ ks);
@@ -92,23 +74,16 @@ turn_of ls at end (tree a attrs kids rest) before dist behind are starts ends lt
     }
 
 -- a tree is passed by its size
-pub turn : (ls : List (Line Label)) (at end : ℕ) → AreTrees ls at end → at < end → (line : Line Label) → line ≡ get_or ls at line → Turn ls at end (at + line.size)
+pub turn : (ls : List (Line Label)) (at end : ℕ) → AreTreesBetween ls at end → at < end → (line : Line Label) → line ≡ get_or ls at line → Turn ls at end (at + line.size)
 turn ls at end w lt line is = turn_of ls at end w.trees w.before w.dist w.behind w.are w.starts w.ends lt line is
 
 none_left : (ls : List (Line Label)) (at end : ℕ) (trees : Forest Label) → at + count trees ≡ end → end ≤ at → trees ≡ none
 none_left ls at end none e le = refl
 none_left ls at end (tree a attrs kids rest) e le = absurd (omega arith)
 
-tops_end : (ls : List (Line Label)) (at end : ℕ) → AreTrees ls at end → end ≤ at → tops_between ls at end ≡ []
+tops_end : (ls : List (Line Label)) (at end : ℕ) → AreTreesBetween ls at end → end ≤ at → tops_between ls at end ≡ []
 tops_end ls at end w le = tops_are ls at end w ∙ ap (λ f. places_of (tops_from at f)) (none_left ls at end w.trees w.ends le)
 
-passing_end : (test : NodeTest) (ls : List (Line Label)) (at end : ℕ) → AreTrees ls at end → end ≤ at → passing_between test ls at end ≡ []
-passing_end test ls at end w le =
-    passing_are test ls at end w ∙ ap (λ f. places_of (filter (λ (node : Node Label). passes test node.label) (tops_from at f))) (none_left ls at end w.trees w.ends le)
-
 -- where nothing is left to push
-pub all_tops_pushed : (ls : List (Line Label)) (at end : ℕ) (now whole : List ℕ) → AreTrees ls at end → end ≤ at → now ++ tops_between ls at end ≡ whole → now ≡ whole
+pub all_tops_pushed : (ls : List (Line Label)) (at end : ℕ) (now whole : List ℕ) → AreTreesBetween ls at end → end ≤ at → now ++ tops_between ls at end ≡ whole → now ≡ whole
 all_tops_pushed ls at end now whole w le e = sym (append-nil now) ∙ ap (λ l. now ++ l) (sym (tops_end ls at end w le)) ∙ e
-
-pub all_passing_pushed : (test : NodeTest) (ls : List (Line Label)) (at end : ℕ) (now whole : List ℕ) → AreTrees ls at end → end ≤ at → now ++ passing_between test ls at end ≡ whole → now ≡ whole
-all_passing_pushed test ls at end now whole w le e = sym (append-nil now) ∙ ap (λ l. now ++ l) (sym (passing_end test ls at end w le)) ∙ e

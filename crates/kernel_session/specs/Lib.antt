@@ -1,9 +1,7 @@
 -- Lines of a script, the commands in them, and the replies.
 pub mod Lines
 pub mod Commands
-pub mod Queries
 pub mod CommandView
-pub mod QueryView
 pub mod Places
 pub mod Tables
 pub mod Replies

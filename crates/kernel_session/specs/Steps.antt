@@ -5,7 +5,8 @@ use Rattle.outer_io.specs.Outer.{Rose}
 use Rattle.outer_io.specs.Files.{Entry, file_in, with_file, Seen, seen, NoneFell, OthersStay}
 use Rattle.tree_model.specs.Forest.{Forest, none}
 use Rattle.tree_model.specs.Labels.{Label, with_path}
-use Rattle.tree_model.specs.Paths.{NodeTest, path_value}
+use Rattle.tree_model.specs.Axes.{path_value}
+use Rattle.tree_model.specs.declared.axis.AxisStep.{AxisStep}
 use Rattle.tree_model.specs.Printed.{rows_text, storage_text, list_text}
 use Rattle.tree_model.specs.Printing.{answer_text, documents_text}
 use Rattle.tree_model.specs.XmlMeaning.{unknown_entity, bad_namespace}
@@ -14,7 +15,7 @@ use Rattle.tree_model.specs.States.{State, Base, is_base_name, document_under, n
 use Rattle.kernel_session.specs.declared.command.Options.{Options}
 use Rattle.kernel_session.specs.Commands.{Input, text, file, path_of_input, Form, table, create, storage, list, query, export, exit, not_built, no_form, form_of, trimmed, without_return}
 use Rattle.kernel_session.specs.CommandView.{IsNoCommand}
-use Rattle.kernel_session.specs.Queries.{path_of}
+use Rattle.query_lexis.specs.Paths.{path_of}
 use Rattle.kernel_session.specs.Replies.{Answer, accepted, refused}
 
 -- what the commands of a script work on: databases, and what is seen of files
@@ -116,7 +117,7 @@ IsAccepted options w (storage range) payload w' = (base : Base) × IsOpened w.st
 IsAccepted options w list payload w' = (payload ≡ list_text w.state.bases) × (w' ≡ w)
 -- the nodes that the path leads to from the documents of the open database
 IsAccepted options w (query words) payload w' =
-    (tests : List NodeTest) × (path_of words ≡ Some tests) × (base : Base) × IsOpened w.state base × (payload ≡ answer_text (path_value base.documents tests)) × (w' ≡ w)
+    (steps : List AxisStep) × (path_of words ≡ Some steps) × (base : Base) × IsOpened w.state base × (payload ≡ answer_text (path_value base.documents steps)) × (w' ≡ w)
 IsAccepted options w (export path name) payload w' =
     (base : Base) × IsOpened w.state base × (d : Forest Label) × (document_under path base.documents ≡ Some d) × (payload ≡ []) × (w'.state ≡ w.state) × IsExported name (documents_text d) w.files w'.files
 IsAccepted options w exit payload w' = (payload ≡ []) × (w' ≡ w)
@@ -131,7 +132,7 @@ IsRefused options w (storage range) code w' = (w.state.opened ≡ None) × (code
 IsRefused options w list code w' = ⊥
 -- a query that isn't read yet; then none open
 IsRefused options w (query words) code w' =
-    ((path_of words ≡ None) × (code ≡ codes "XKCM0002") × (w' ≡ w)) ⊎ ((tests : List NodeTest) × (path_of words ≡ Some tests) × (w.state.opened ≡ None) × (code ≡ codes "XPDY0002") × (w' ≡ w))
+    ((path_of words ≡ None) × (code ≡ codes "XKCM0002") × (w' ≡ w)) ⊎ ((steps : List AxisStep) × (path_of words ≡ Some steps) × (w.state.opened ≡ None) × (code ≡ codes "XPDY0002") × (w' ≡ w))
 -- none open; then no such document; then the write
 IsRefused options w (export path name) code w' =
     ((w.state.opened ≡ None) × (code ≡ codes "XKDB0001") × (w' ≡ w))

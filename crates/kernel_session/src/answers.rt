@@ -2,22 +2,26 @@
 ghost use Rattle.std.specs.Prelude.{◌≡◌, ◌<◌, ◌^◌, ◌++◌, None, OnOk, IfOk, IfSome, IfNone, length, map};
 ghost use Rattle.std.specs.List.{All, join_with_byte};
 ghost use Rattle.tree_model.specs.Forest.{top_count};
-ghost use Rattle.tree_model.specs.Paths.{path_value};
+ghost use Rattle.tree_model.specs.Axes.{path_value};
 ghost use Rattle.tree_model.specs.Printed.{base_text, list_text, storage_text};
 ghost use Rattle.tree_model.specs.Printing.{answer_text};
 ghost use Rattle.tree_model.specs.States.{document_under};
-ghost use Rattle.doc_store.specs.Stored.{base_of};
+ghost use Rattle.axis_cursor.specs.Trees.{places_of};
+ghost use Rattle.axis_steps.specs.Steps.{IsStanding};
+ghost use Rattle.doc_store.specs.Stored.{base_of, IsKept};
+ghost use Rattle.frame_pool.specs.Meters.{HasRead};
 ghost use Rattle.kernel_session.specs.Places.{text_at};
-ghost use Rattle.kernel_session.specs.QueryView.{node_test};
 ghost use Rattle.kernel_session.specs.Tables.{IsTable, table_forest, IsDocumentAt};
 
 use crate::number::Number;
-use crate::path::{path_places, push_tops};
-use crate::query::Test;
 use crate::table::{Table, table_of};
+use crate::tops::document_places;
+use axis_steps::{Trees, path};
 use doc_store::Database;
+use frame_pool::Meter;
 use serializer::{print_node, print_storage, push_number};
 use std::alloc::{AllocError, Global};
+use tree_model::AxisStep;
 
 /// Appends all rows of a database, or those from one pre up to and without another.
 pub fn push_storage(
@@ -46,9 +50,7 @@ pub fn push_storage(
 fn document_count(alloc: Global, database: &Database) -> Result<u64, AllocError>
     ensures { IfOk result (λ n. n ≡ top_count (base_of database.now).documents) }
 {
-    let table = table_of(database);
-    let mut places = Vec::new(alloc);
-    push_tops(&table, 0, table.rows.len() as u32, &mut places)?;
+    let places = document_places(alloc, database)?;
     Ok(places.len() as u64)
 }
 
@@ -109,16 +111,47 @@ fn push_nodes(database: &Database, places: &[u32], out: &mut Vec<u8>) -> Result<
     Ok(())
 }
 
-/// Appends the nodes that a path leads to, joined by LF.
+// The rows of a database, for walks over them.
+fn trees_of(database: &Database) -> Trees<'_>
+    ensures table { result.table.now ≡ database.now.rows }
+    ensures names { result.names.now ≡ database.now.names }
+    ensures standing { IsStanding result.names.now result.table.now }
+    ensures kept { IsKept database.now }
+{
+    Trees {
+        table: database.table(),
+        pool: database.row_pool(),
+        names: database.names(),
+    }
+}
+
+// The places of the nodes that a path leads to from the documents.
+fn path_places(
+    alloc: Global,
+    database: &Database,
+    steps: &[AxisStep],
+    meter: &mut Meter,
+) -> Result<Vec<u32>, AllocError>
+    ensures places { IfOk result (λ found. found.items ≡ places_of (path_value (base_of database.now).documents steps.now)) }
+    ensures within { IfOk result (λ found. All (λ place. place < length database.now.rows) found.items) }
+    ensures meter { HasRead meter.old meter.new }
+{
+    let places = document_places(alloc, database)?;
+    path(alloc, &trees_of(database), places, steps, meter)
+}
+
+/// Appends the nodes that a path leads to from the documents, joined by LF.
 pub fn push_answer(
     alloc: Global,
     database: &Database,
-    tests: &[Test<'_>],
+    steps: &[AxisStep],
     out: &mut Vec<u8>,
+    meter: &mut Meter,
 ) -> Result<(), AllocError>
-    ensures { OnOk result (out.new.items ≡ out.old.items ++ answer_text (path_value (base_of database.now).documents (map node_test tests.now))) }
+    ensures text { OnOk result (out.new.items ≡ out.old.items ++ answer_text (path_value (base_of database.now).documents steps.now)) }
+    ensures meter { HasRead meter.old meter.new }
 {
-    let places = path_places(alloc, &table_of(database), tests)?;
+    let places = path_places(alloc, database, steps, meter)?;
     push_nodes(database, &places, out)
 }
 

@@ -1,6 +1,7 @@
 // Commands, as lines hold them.
 ghost use Rattle.std.specs.Prelude.{◌≡◌, ◌&&◌, nat_le, ◌<◌, ◌≤◌, ◌^◌, ◌++◌, ◌==◌, true, false, not, codes, length, IfSome, IfNone};
 ghost use Rattle.std.specs.List.{list_all};
+ghost use Rattle.std.specs.Str.{IsUtf8};
 ghost use Rattle.tree_model.specs.Sound as sound;
 ghost use Rattle.tree_model.specs.Sound.{is_empty};
 ghost use Rattle.kernel_session.specs.Commands as read;
@@ -24,7 +25,7 @@ const MAX_PATH: usize = 255;
 /// The text of a query that a command was given: it isn't empty and has at most 2^24 bytes.
 #[derive(Drop)]
 pub struct QueryText<'a> {
-    text: &'a [u8],
+    text: &'a str,
 }
 
 impl<'a> Model for QueryText<'a> {
@@ -38,7 +39,7 @@ impl<'a> Model for QueryText<'a> {
 }
 
 impl<'a> QueryText<'a> {
-    fn new(text: &'a [u8]) -> QueryText<'a>
+    fn new(text: &'a str) -> QueryText<'a>
         requires some { 0 < length text.now }
         requires len { length text.now ≤ 2 ^ 24 }
         ensures { result ≡ text.now }
@@ -46,8 +47,7 @@ impl<'a> QueryText<'a> {
         QueryText { text }
     }
 
-    /// The bytes of the text.
-    pub fn bytes(&self) -> &'a [u8]
+    pub fn text(&self) -> &'a str
         ensures value { result.now ≡ self.now }
         ensures some { 0 < length result.now }
         ensures len { length result.now ≤ 2 ^ 24 }
@@ -263,13 +263,17 @@ fn storage_command(words: &[u8]) -> Option<Command<'_>>
 
 // The command XQUERY with this query.
 fn query_command(words: &[u8]) -> Option<Command<'_>>
-    requires { length words.now ≤ 2 ^ 24 }
+    requires len { length words.now ≤ 2 ^ 24 }
+    requires utf8 { IsUtf8 words.now }
     ensures { form_of_read result ≡ read.query_form words.now }
 {
     if words.is_empty() {
         return None;
     }
-    Some(Command::Query(QueryText::new(words)))
+    match std::str::from_utf8(words) {
+        Ok(text) => Some(Command::Query(QueryText::new(text))),
+        Err(_) => None,
+    }
 }
 
 // The command EXPORT with these words behind it.
@@ -305,7 +309,8 @@ fn two_word_command<'a>(first: &[u8], second: &[u8], words: &'a [u8]) -> Option<
 
 // The command of a line without blanks at its ends.
 fn command_of(line: &[u8]) -> Option<Command<'_>>
-    requires { length line.now ≤ 2 ^ 24 }
+    requires len { length line.now ≤ 2 ^ 24 }
+    requires utf8 { IsUtf8 line.now }
     ensures { form_of_read result ≡ read.form_of line.now }
 {
     let (first, behind) = split_word(line);

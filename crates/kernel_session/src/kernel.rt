@@ -11,6 +11,7 @@ ghost use Rattle.doc_import.specs.Imported.{built_forest};
 ghost use Rattle.tree_model.specs.States.{State, Base, IsOpened, no_bases, without_name, with_new};
 ghost use Rattle.tree_model.specs.Sound.{are_distinct};
 ghost use Rattle.doc_store.specs.Stored.{Stored, base_of};
+ghost use Rattle.frame_pool.specs.Meters.{HasRead};
 ghost use Rattle.kernel_session.specs.CommandView.{form_of_command, input_of, input_of_document};
 ghost use Rattle.kernel_session.specs.Databases.{AreKept, AreWhole, IsRead};
 ghost use Rattle.kernel_session.specs.Replies.{accepted, refused, IsText};
@@ -25,12 +26,12 @@ use crate::content::read_document;
 use crate::create::{database_of, new_database};
 use crate::input::{DocumentPath, FileName, Input, NewDocument};
 use crate::number::Number;
-use crate::query::read_path;
 use crate::reply::Reply;
 use doc_import::Built;
 use doc_store::Database;
 use frame_pool::Meter;
 use outer_io::{FileWrite, Files};
+use query_lexis::read_path;
 use std::alloc::{AllocError, Global};
 use std::marker::Model;
 use tree_model::{Code, Refusal, Text};
@@ -237,11 +238,12 @@ impl Kernel {
     }
 
     // The reply to XQUERY.
-    fn query_reply(&self, alloc: Global, words: &[u8]) -> Reply
-        ensures { (options : Options) (w : Workspace) → w.state ≡ self.now → Step options w (query words.now) (answer_of result) w }
+    fn query_reply(&self, alloc: Global, words: &str, meter: &mut Meter) -> Reply
+        ensures step { (options : Options) (w : Workspace) → w.state ≡ self.now → Step options w (query words.now) (answer_of result) w }
+        ensures meter { HasRead meter.old meter.new }
     {
-        let tests = match read_path(alloc, words) {
-            Ok(Some(tests)) => tests,
+        let steps = match read_path(alloc, words) {
+            Ok(Some(steps)) => steps,
             Ok(None) => return Reply::Err(Refusal::Code(Code::XKCM0002)),
             Err(_e) => return Reply::Err(Refusal::NoMemory),
         };
@@ -249,7 +251,7 @@ impl Kernel {
             return Reply::Err(Refusal::Code(Code::XPDY0002));
         };
         let mut text = Vec::new(alloc);
-        let written = push_answer(alloc, database, &tests, &mut text);
+        let written = push_answer(alloc, database, &steps, &mut text, meter);
         text_reply(text, written)
     }
 
@@ -311,7 +313,7 @@ impl Kernel {
     }
 
     /// The reply to a command. A refused command leaves all databases as they were, and all files but for the bytes of the one
-    /// that it failed to write.
+    /// that it failed to write. Only a query reads rows by the meter.
     pub fn execute<F: Files>(
         &mut self,
         alloc: Global,
@@ -322,7 +324,7 @@ impl Kernel {
     ) -> Reply
         ensures step { Step options (workspace self.old (F.map files.old) (F.faults files.old) (F.misses files.old) (F.overlong files.old)) (form_of_command command.now) (answer_of result)
             (workspace self.new (F.map files.new) (F.faults files.new) (F.misses files.new) (F.overlong files.new)) }
-        ensures meter { meter.new ≡ meter.old }
+        ensures meter { HasRead meter.old meter.new }
     {
         match command {
             Command::Table(input) => table_reply(alloc, input, files, options, meter),
@@ -331,7 +333,7 @@ impl Kernel {
             }
             Command::InfoStorage(range) => self.storage_reply(alloc, range),
             Command::List => self.list_reply(alloc),
-            Command::Query(words) => self.query_reply(alloc, words.bytes()),
+            Command::Query(words) => self.query_reply(alloc, words.text(), meter),
             Command::Export { path, file } => self.export_reply(alloc, path, file, files),
             Command::Exit => Reply::Ok(Vec::new(alloc)),
             Command::NotBuilt => Reply::Err(Refusal::Code(Code::XKCM0002)),

@@ -10,12 +10,10 @@ mod input;
 mod kernel;
 mod lines;
 mod number;
-mod order;
-mod path;
-mod query;
 mod reply;
 mod session;
 mod table;
+mod tops;
 mod word;
 
 pub use command::{Command, Options, QueryText, read_command};

@@ -2,6 +2,7 @@
 ghost use Rattle.std.specs.Prelude.{◌≡◌, ◌≢◌, ◌⊎◌, ◌↔◌, ◌^◌, ◌<◌, ◌≤◌, ◌||◌, ◌++◌, ℕ, false, List, Option, Some, length, vec_len};
 ghost use Rattle.std.specs.Bool.{Decides};
 ghost use Rattle.std.specs.Option.{option_map};
+ghost use Rattle.frame_pool.specs.Meters.{HasRead};
 ghost use Rattle.outer_io.specs.Outer.{Rose};
 ghost use Rattle.kernel_session.specs.Lines.{IsKept, IsOneLine};
 ghost use Rattle.kernel_session.specs.Commands.{exit};
@@ -57,7 +58,7 @@ fn reply_to<F: Files>(
     requires { length line.now ≤ 2 ^ 24 }
     ensures answer { IsLineAnswer options (workspace kernel.old (F.map files.old) (F.faults files.old) (F.misses files.old) (F.overlong files.old)) line.now (answer_of result.0)
         (workspace kernel.new (F.map files.new) (F.faults files.new) (F.misses files.new) (F.overlong files.new)) }
-    ensures meter { meter.new ≡ meter.old }
+    ensures meter { HasRead meter.old meter.new }
     ensures ends { Decides result.1 (IsExitLine line.now) }
 {
     match read_command(line) {
@@ -82,7 +83,7 @@ fn reply_if<F: Files>(
     requires { is_long ≡ false → length line.now ≤ 2 ^ 24 }
     ensures answer { (l : List ℕ) → IsKept l line.now is_long → IsAnswered options (workspace kernel.old (F.map files.old) (F.faults files.old) (F.misses files.old) (F.overlong files.old)) l (option_map answer_of result.0)
         (workspace kernel.new (F.map files.new) (F.faults files.new) (F.misses files.new) (F.overlong files.new)) }
-    ensures meter { meter.new ≡ meter.old }
+    ensures meter { HasRead meter.old meter.new }
     ensures ends { (l : List ℕ) → IsKept l line.now is_long → Decides result.1 (IsExit l) }
 {
     if is_long {
@@ -130,7 +131,7 @@ fn serve<K: Sink, F: Files>(
 ) -> Result<Served, WriteFailed>
     requires { reader.now.is_long ≡ false → vec_len reader.now.line ≤ 2 ^ 24 }
     ensures answered { HasAnswered (workspace kernel.old (F.map files.old) (F.faults files.old) (F.misses files.old) (F.overlong files.old)) (workspace kernel.new (F.map files.new) (F.faults files.new) (F.misses files.new) (F.overlong files.new)) reader.now.line.items reader.now.is_long refused (K.written sink.old) (K.written sink.new) (K.faults sink.old) (K.faults sink.new) result }
-    ensures meter { meter.new ≡ meter.old }
+    ensures meter { HasRead meter.old meter.new }
 {
     let options = Options {
         plain: false,
@@ -166,7 +167,7 @@ fn serve_lines<S: Source, K: Sink, F: Files>(
     ensures ran { Ran (workspace kernel.old (F.map files.old) (F.faults files.old) (F.misses files.old) (F.overlong files.old)) (workspace kernel.new (F.map files.new) (F.faults files.new) (F.misses files.new) (F.overlong files.new)) (S.left source.old) (S.left source.new) (S.faults source.old) (S.faults source.new)
         (K.written sink.old) (K.written sink.new) (K.faults sink.old) (K.faults sink.new) result }
     ensures words { result ≢ Status.BadWords }
-    ensures meter { meter.new ≡ meter.old }
+    ensures meter { HasRead meter.old meter.new }
 {
     let Ok(mut reader) = LineReader::new(alloc) else {
         return Status::NoMemory;
@@ -226,7 +227,7 @@ pub fn run<S: Source, K: Sink, F: Files>(
     // By status: which lines were taken, what was answered to each, and what was appended.
     ensures ran { (status : Status) × (result ≡ number_of status) × Ran (workspace kernel.old (F.map files.old) (F.faults files.old) (F.misses files.old) (F.overlong files.old)) (workspace kernel.new (F.map files.new) (F.faults files.new) (F.misses files.new) (F.overlong files.new)) (S.left source.old) (S.left source.new) (S.faults source.old) (S.faults source.new)
         (K.written sink.old) (K.written sink.new) (K.faults sink.old) (K.faults sink.new) status }
-    ensures meter { meter.new ≡ meter.old }
+    ensures meter { HasRead meter.old meter.new }
     ensures words { (result ≡ 2) ↔ (0 < length words.now) }
     ensures read { result ≡ 3 → Rose (S.faults source.old) (S.faults source.new) }
     ensures write { result ≡ 4 → Rose (K.faults sink.old) (K.faults sink.new) }

@@ -115,7 +115,33 @@ fn paths_are_answered(rt: HostRuntime) -> Result<(), Fail> {
         is_answered(
             &rt,
             b"XQUERY /a\nXQUERY 1\nXQUERY\nCREATE DB d <a><b>x</b><b/>y</a>\nXQUERY /a/b\nXQUERY /a/text()\nxquery  /a/b/text() \nXQUERY //b\nXQUERY /a/\nXQUERY /a b\nXQUERY /z\nXQUERY /a\n",
-            b"err XPDY0002\nerr XKCM0002\nerr XKCM0001\nok 0\n\nok 13\n<b>x</b>\n<b/>\nok 1\ny\nok 1\nx\nerr XKCM0002\nerr XKCM0002\nerr XKCM0002\nok 0\n\nok 20\n<a><b>x</b><b/>y</a>\n",
+            b"err XPDY0002\nerr XKCM0002\nerr XKCM0001\nok 0\n\nok 13\n<b>x</b>\n<b/>\nok 1\ny\nok 1\nx\nok 13\n<b>x</b>\n<b/>\nerr XKCM0002\nerr XKCM0002\nok 0\n\nok 20\n<a><b>x</b><b/>y</a>\n",
+            1,
+        )?
+    );
+    Ok(())
+}
+
+#[test]
+fn axes_are_answered(rt: HostRuntime) -> Result<(), Fail> {
+    assert!(rt;
+        is_answered(
+            &rt,
+            b"CREATE DB d <a><b k=\"1\"/>t</a>\nXQUERY //@k/ancestor::*\nXQUERY //@k/following::node()\nXQUERY //@k\nXQUERY /\nCREATE DB e <r><a/><b/><c/></r>\nXQUERY //c/preceding-sibling::*\nXQUERY //c/..\n",
+            b"ok 0\n\nok 29\n<a><b k=\"1\"/>t</a>\n<b k=\"1\"/>\nok 1\nt\nok 5\nk=\"1\"\nok 18\n<a><b k=\"1\"/>t</a>\nok 0\n\nok 9\n<a/>\n<b/>\nok 19\n<r><a/><b/><c/></r>\n",
+            0,
+        )?
+    );
+    Ok(())
+}
+
+#[test]
+fn written_paths_are_read(rt: HostRuntime) -> Result<(), Fail> {
+    assert!(rt;
+        is_answered(
+            &rt,
+            b"CREATE DB d <r><\xc3\xa9/><a/></r>\nXQUERY r/a\nXQUERY / r (: in (: all :) :) /  a\nXQUERY //\xc3\xa9\nXQUERY r//\nXQUERY (: r\n",
+            b"ok 0\n\nok 4\n<a/>\nok 4\n<a/>\nok 5\n<\xc3\xa9/>\nerr XKCM0002\nerr XKCM0002\n",
             1,
         )?
     );

@@ -1,11 +1,13 @@
 //! The rows of a table as text, and nodes as XML.
 #![tactic(auto)]
 
+mod atom;
 mod bindings;
 mod escape;
 mod node;
 mod storage;
 
+pub use atom::print_atom;
 pub use node::print_node;
 pub use storage::{print_storage, push_number};
 

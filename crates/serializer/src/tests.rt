@@ -1,4 +1,5 @@
-ghost use Rattle.std.specs.Prelude.{◌≡◌, ◌<◌, ◌≤◌, ◌^◌, length, IfOk};
+ghost use Rattle.std.specs.Prelude.{◌≡◌, ◌<◌, ◌≤◌, ◌^◌, true, length, IfOk};
+ghost use Rattle.tree_model.specs.Items.{is_atom};
 
 use super::*;
 use frame_pool::Pool;
@@ -6,7 +7,7 @@ use name_pool::NamePool;
 use node_table::NodeTable;
 use std::alloc::Global;
 use std::test::Fail;
-use tree_model::{Kind, NoMemory, Row, ValueRef};
+use tree_model::{Item, Kind, NoMemory, Num, Row, Text, ValueRef};
 use value_heap::ValueHeap;
 
 const LEAF: Row = Row {
@@ -318,6 +319,43 @@ fn a_node_declares_what_it_needs_alone(rt: HostRuntime) -> Result<(), Fail> {
     assert_eq!(rt;
         declared(&rt, 5)?.as_slice(),
         b"<q:s xmlns:q=\"w\"/>".as_slice()
+    );
+    Ok(())
+}
+
+// What stands in a buffer with these bytes once an item is printed to it.
+fn atom(rt: &HostRuntime, before: &[u8], item: &Item) -> Result<Vec<u8>, Fail>
+    requires { is_atom item.now ≡ true }
+{
+    let mut out = before.to_vec(rt.alloc())?;
+    print_atom(item, &mut out)?;
+    Ok(out)
+}
+
+#[test]
+fn atoms_of_each_kind(rt: HostRuntime) -> Result<(), Fail> {
+    let text = "a<b>\t&\n\\";
+    let string = Item::Str(Text::of(rt.alloc(), text)?);
+    let untyped = Item::Untyped(Text::of(rt.alloc(), text)?);
+    assert_eq!(rt;
+        atom(&rt, b"ok ", &string)?.as_slice(),
+        b"ok a<b>\t&\n\\".as_slice()
+    );
+    assert_eq!(rt;
+        atom(&rt, b"", &untyped)?.as_slice(),
+        b"a<b>\t&\n\\".as_slice()
+    );
+    assert_eq!(rt;
+        atom(&rt, b"", &Item::Number(Num(-2_050_000)))?.as_slice(),
+        b"-2.05".as_slice()
+    );
+    assert_eq!(rt;
+        atom(&rt, b"", &Item::Bool(true))?.as_slice(),
+        b"true".as_slice()
+    );
+    assert_eq!(rt;
+        atom(&rt, b"", &Item::Bool(false))?.as_slice(),
+        b"false".as_slice()
     );
     Ok(())
 }

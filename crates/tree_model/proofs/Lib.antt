@@ -1,5 +1,6 @@
 pub mod Numbering
 pub mod Standing
+pub mod Relations
 pub mod XmlUtf8
 pub mod XmlSoundTexts
 pub mod XmlSoundWords

@@ -1,10 +1,10 @@
 -- Nodes among the lines of their trees.
 use Rattle.std.proofs.Common.{◌≡◌, inl, inr, ℕ, zero, suc, ◌+◌, ◌<◌, Bool, true, false, cond, List, [], ◌∷◌, ◌++◌, length, map, refl, sym, ap, ◌∙◌, subst, arith, append_assoc, append-nil, length-append, zero-add, add-zero}
 use Rattle.std.specs.Prelude.{◌⊎◌, ◌||◌, filter, nat_eq}
-use Rattle.std.specs.List.{Contains, list_any, slice_index_or, range_with_len}
+use Rattle.std.specs.List.{Contains, slice_index_or, range_with_len}
 use Rattle.std.proofs.lemmas.List.{map-append}
 use Rattle.tree_model.specs.Forest.{Forest, none, tree, count, Line, raise, attr_lines, lines}
-use Rattle.tree_model.specs.Nodes.{Node, attr_nodes, nodes_from, nodes, tops_from, children, is_among, in_document_order}
+use Rattle.tree_model.specs.Nodes.{Node, attr_nodes, nodes_from, nodes, tops_from, children, is_among, is_place_among, in_document_order}
 use Rattle.tree_model.specs.Trees.{length-lines, length-attr_lines}
 
 -- ---- elements of lists
@@ -26,17 +26,17 @@ in_contains [] x h = absurd h
 in_contains (y ∷ ys) x (inl e) = (0, omega arith, e)
 in_contains (y ∷ ys) x (inr h) = let c = in_contains ys x h in (suc c.0, omega (arith, c.1), c.2)
 
-in_append : {A : Type 0} (xs ys : List A) (x : A) → IsIn (xs ++ ys) x → IsIn xs x ⊎ IsIn ys x
+pub in_append : {A : Type 0} (xs ys : List A) (x : A) → IsIn (xs ++ ys) x → IsIn xs x ⊎ IsIn ys x
 in_append [] ys x h = inr h
 in_append (z ∷ xs) ys x (inl e) = inl (inl e)
 in_append (z ∷ xs) ys x (inr h) = elim (in_append xs ys x h) [ inl a ↦ inl (inr a) | inr b ↦ inr b ]
 
-in_left : {A : Type 0} (xs ys : List A) (x : A) → IsIn xs x → IsIn (xs ++ ys) x
+pub in_left : {A : Type 0} (xs ys : List A) (x : A) → IsIn xs x → IsIn (xs ++ ys) x
 in_left [] ys x h = absurd h
 in_left (z ∷ xs) ys x (inl e) = inl e
 in_left (z ∷ xs) ys x (inr h) = inr (in_left xs ys x h)
 
-in_right : {A : Type 0} (xs ys : List A) (x : A) → IsIn ys x → IsIn (xs ++ ys) x
+pub in_right : {A : Type 0} (xs ys : List A) (x : A) → IsIn ys x → IsIn (xs ++ ys) x
 in_right [] ys x h = h
 in_right (z ∷ xs) ys x h = inr (in_right xs ys x h)
 
@@ -168,14 +168,14 @@ place_below f node h =
     let whole = ap length s.are ∙ length-append s.before (own_line s.dist node ∷ (attr_lines 1 node.attrs ++ (lines (1 + length node.attrs) node.kids ++ s.behind))) in
     omega (arith, s.at, whole, length-lines 0 f)
 
-range-append : (n a b : ℕ) → range_with_len n (a + b) ≡ range_with_len n a ++ range_with_len (n + a) b
+pub range-append : (n a b : ℕ) → range_with_len n (a + b) ≡ range_with_len n a ++ range_with_len (n + a) b
 range-append n zero b = rw (zero-add b, add-zero n) refl
 range-append n (suc a) b =
     let e : suc a + b ≡ suc (a + b) = omega arith in
     let k : n + 1 + a ≡ n + suc a = omega arith in
     ap (range_with_len n) e ∙ ap (λ l. n ∷ l) (range-append (n + 1) a b ∙ ap (λ m. range_with_len (n + 1) a ++ range_with_len m b) k)
 
-attr_places : {A : Type 0} (n : ℕ) (attrs : List A) → map place_of (attr_nodes n attrs) ≡ range_with_len n (length attrs)
+pub attr_places : {A : Type 0} (n : ℕ) (attrs : List A) → map place_of (attr_nodes n attrs) ≡ range_with_len n (length attrs)
 attr_places n [] = refl
 attr_places n (a ∷ attrs) = ap (λ l. n ∷ l) (attr_places (suc n) attrs ∙ ap (λ m. range_with_len m (length attrs)) (omega arith))
 
@@ -204,11 +204,7 @@ node_places {A = A} n (tree a attrs kids rest) =
 
 -- ---- document order
 
--- the places that are among others
-abbrev pub is_place_among : List ℕ → ℕ → Bool
-is_place_among places place = list_any (λ other. nat_eq other place) places
-
-same_among : {A : Type 0} (found : List (Node A)) (node : Node A) → is_among found node ≡ is_place_among (map place_of found) node.place
+pub same_among : {A : Type 0} (found : List (Node A)) (node : Node A) → is_among found node ≡ is_place_among (map place_of found) node.place
 same_among [] node = refl
 same_among (other ∷ found) node = ap (λ b. nat_eq other.place node.place || b) (same_among found node)
 

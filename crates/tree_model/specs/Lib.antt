@@ -6,7 +6,10 @@ pub mod Rows
 pub mod Printed
 pub mod Sound
 pub mod Nodes
-pub mod Paths
+pub mod Axes
+pub mod Outcomes
+pub mod Numbers
+pub mod Items
 pub mod XmlChars
 pub mod XmlSource
 pub mod XmlGood

@@ -42,6 +42,10 @@ children node = tops_from (node.place + (1 + length node.attrs)) node.kids
 abbrev pub is_among : {A : Type 0} → List (Node A) → Node A → Bool
 is_among found node = list_any (λ other. nat_eq other.place node.place) found
 
+-- whether a place is among others
+abbrev pub is_place_among : List ℕ → ℕ → Bool
+is_place_among places place = list_any (λ other. nat_eq other place) places
+
 -- those nodes, in document order and each once
 abbrev pub in_document_order : {A : Type 0} → Forest A → List (Node A) → List (Node A)
 in_document_order f found = filter (is_among found) (nodes f)

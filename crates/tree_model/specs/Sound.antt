@@ -116,6 +116,28 @@ is_attr label = by label.kind
     by Comm = false
     by Pi = false
 
+abbrev pub is_comm : Label → Bool
+is_comm label = by label.kind
+  where
+    by : Kind → Bool
+    by Doc = false
+    by Elem = false
+    by Text = false
+    by Attr = false
+    by Comm = true
+    by Pi = false
+
+abbrev pub is_pi : Label → Bool
+is_pi label = by label.kind
+  where
+    by : Kind → Bool
+    by Doc = false
+    by Elem = false
+    by Text = false
+    by Attr = false
+    by Comm = false
+    by Pi = true
+
 -- documents and elements have children, which are neither documents nor attributes
 abbrev pub fits : Label → Label → Bool
 fits parent child = (is_doc parent || is_elem parent) && not (is_doc child || is_attr child)

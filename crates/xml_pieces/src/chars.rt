@@ -48,9 +48,9 @@ pub fn is_xml_char(code: u32) -> bool
         || is_between(0x1_0000, 0x10_FFFF, code)
 }
 
-// Whether a name may begin with the character.
+/// Whether a name may begin with the character (Namespaces in XML 1.0, section 4: no colon).
 #[tactic(auto, unfolding(tree_model::specs::XmlChars::is_name_start_char))]
-fn is_name_start_char(character: char) -> bool
+pub fn is_name_start_char(character: char) -> bool
     ensures { result ≡ chars.is_name_start_char character }
 {
     let code = character as u32;
@@ -70,9 +70,9 @@ fn is_name_start_char(character: char) -> bool
         | is_between(0x1_0000, 0xE_FFFF, code)
 }
 
-// Whether a name may go on with the character.
+/// Whether a name may go on with the character.
 #[tactic(auto, unfolding(tree_model::specs::XmlChars::is_inner_name_char))]
-fn is_inner_name_char(character: char) -> bool
+pub fn is_inner_name_char(character: char) -> bool
     ensures { result ≡ chars.is_inner_name_char character }
 {
     let code = character as u32;

@@ -73,8 +73,9 @@ pub fn char_of(base: u32, digits: &[u8]) -> char
     char::from_u32(number_of(base, digits)).unwrap_or('?')
 }
 
+/// Whether digits spell the code of a character that a document may hold, in a base.
 #[tactic(auto, using(crate::proofs::Numbers::char_of_cut))]
-fn is_char_number(base: u32, digits: &[u8]) -> bool
+pub fn is_char_number(base: u32, digits: &[u8]) -> bool
     requires low { 1 ≤ base }
     requires high { base ≤ 16 }
     ensures { result ≡ chars.is_xml_char (good.number_from base 0 digits.now) }

@@ -1,6 +1,6 @@
 use Rattle.std.proofs.Common.{arith}
 use Rattle.doc_store.specs.Stored.{base_of}
-use Rattle.kernel_session.proofs.ChildSteps.{text_of_node}
+use Rattle.kernel_session.proofs.PathPlaces.{text_of_node}
 use Rattle.kernel_session.proofs.Databases.{kept_counted}
 use Rattle.kernel_session.proofs.answers.push_node.Goals as goal
 

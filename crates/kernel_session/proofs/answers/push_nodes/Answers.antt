@@ -1,6 +1,6 @@
 use Rattle.std.proofs.Common.{length}
 use Rattle.doc_store.specs.Stored.{base_of}
-use Rattle.kernel_session.proofs.ChildSteps.{texts_written, rest_within}
+use Rattle.kernel_session.proofs.PathPlaces.{texts_written, rest_within}
 use Rattle.kernel_session.proofs.answers.push_nodes.Goals as goal
 
 pub push_node-requires-in-loop-place : goal.push_node-requires-in-loop-place

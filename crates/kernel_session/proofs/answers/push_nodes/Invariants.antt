@@ -1,6 +1,6 @@
 use Rattle.std.proofs.Common.{◌≡◌, ◌++◌, drop}
 use Rattle.doc_store.specs.Stored.{base_of}
-use Rattle.kernel_session.proofs.ChildSteps.{more_texts}
+use Rattle.kernel_session.proofs.PathPlaces.{more_texts}
 use Rattle.kernel_session.proofs.answers.push_nodes.Given as goal
 
 abbrev pub invariant-loop-place : goal.invariant-loop-place

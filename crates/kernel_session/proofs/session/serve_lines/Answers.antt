@@ -1,7 +1,7 @@
-use Rattle.std.proofs.Common.{◌^◌, ◌∙◌, [], refl, sym}
+use Rattle.std.proofs.Common.{◌^◌, [], refl, sym}
 use Rattle.kernel_session.specs.Steps.{workspace}
 use Rattle.kernel_session.proofs.Streams.{prepend_nil}
-use Rattle.kernel_session.proofs.Sessions.{served_none, served_more, no_memory, write_fault, done, done_by_exit}
+use Rattle.kernel_session.proofs.Sessions.{read_none, read_then, served_none, served_more, no_memory, write_fault, done, done_by_exit}
 use Rattle.kernel_session.proofs.session.serve_lines.Goals as goal
 
 pub returns-in_default-clause-ran : goal.returns-in_default-clause-ran
@@ -15,7 +15,7 @@ lines-init g c =
     record {
       served = rw (c.in-Ok.ensures.0, c.in-Ok.ensures.1, c.in-Ok.ensures.2)
           (served_none (workspace c.args.kernel.now (g.F.Files.map c.args.files.now) (g.F.Files.faults c.args.files.now) (g.F.Files.misses c.args.files.now) (g.F.Files.overlong c.args.files.now)) (g.S.Source.left c.args.source.now) (g.K.Sink.written c.args.sink.now) (g.S.Source.faults c.args.source.now) (g.K.Sink.faults c.args.sink.now) (2 ^ 32) refl);
-      meter = refl;
+      meter = read_none c.args.meter.now;
     }
 
 pub returns-in-Err-clause-ran : goal.returns-in-Err-clause-ran
@@ -42,7 +42,7 @@ lines-preserved g c =
     let answered = rw c.in-Ok-serve-2.is at c.serve-in-Newline.ensures.answered in
     record {
       served = served_more _ _ _ _ _ _ _ _ _ _ _ _ _ _ _ _ _ _ _ _ _ c.lines.invariant.served line answered c.if-served.false;
-      meter = c.serve-in-Newline.ensures.meter ∙ c.lines.invariant.meter;
+      meter = read_then c.args.meter.now c.lines.meter c.serve-in-Newline.new.meter c.lines.invariant.meter c.serve-in-Newline.ensures.meter;
     }
 
 pub returns-in-Err-serve-2-clause-ran : goal.returns-in-Err-serve-2-clause-ran

@@ -1,6 +1,7 @@
-use Rattle.std.proofs.Common.{◌≡◌, ◌+◌, ◌-◌}
+use Rattle.std.proofs.Common.{◌+◌, ◌-◌}
 use Rattle.std.specs.Prelude.{slice_range}
 use Rattle.std.specs.Io.KnownBytes.{prepend_known}
+use Rattle.frame_pool.specs.Meters.{HasRead}
 use Rattle.kernel_session.specs.Sessions.{HasServed}
 use Rattle.kernel_session.specs.Steps.{workspace}
 use Rattle.kernel_session.proofs.session.serve_lines.Given as goal
@@ -13,7 +14,7 @@ invariant-lines g l = record {
       (g.S.Source.faults l.fn.source) (g.S.Source.faults l.source)
       (l.reader.room + (l.reader.end - l.reader.start))
       (g.K.Sink.written l.fn.sink) (g.K.Sink.written l.sink) (g.K.Sink.faults l.fn.sink) (g.K.Sink.faults l.sink) l.refused;
-  meter : l.meter ≡ l.fn.meter;
+  meter : HasRead l.fn.meter l.meter;
 }
 
 abbrev pub decreases-lines : goal.decreases-lines

@@ -1,0 +1,15 @@
+//! The axes of a node, walked over the rows of a table without reading more of them than is given.
+#![tactic(auto)]
+
+mod cursor;
+mod node_test;
+mod origin;
+mod start;
+mod steps;
+mod walk;
+
+pub use cursor::Cursor;
+pub use node_test::passes;
+
+#[cfg(test)]
+mod tests;

@@ -1,0 +1,142 @@
+-- Rows that stand for trees since they are those of a forest, and the rows of the tests.
+use Rattle.std.proofs.Common.{◌≡◌, ℕ, zero, suc, ◌+◌, ◌*◌, ◌-◌, ◌<◌, List, [], ◌∷◌, ◌++◌, length, refl, sym, ap, ◌∙◌, subst, arith, append-nil, append_assoc}
+use Rattle.std.specs.List.{All}
+use Rattle.std.proofs.lemmas.List.Elements.{All-nil, All-cons}
+use Rattle.axis_cursor.specs.Trees.{HasKinds}
+use Rattle.tree_model.specs.Forest.{Forest, none, tree, count, Line, lines, flatten}
+use Rattle.tree_model.specs.Labels.{Label}
+use Rattle.tree_model.specs.Rows.{label_of, lines_of}
+use Rattle.tree_model.specs.Trees.{is_flat, grove_is}
+use Rattle.tree_model.specs.declared.row.Kind.{Kind}
+use Rattle.tree_model.specs.declared.row.Kind.TheVariants.{Doc, Elem, Comm}
+use Rattle.tree_model.specs.declared.row.Row.{Row}
+use Rattle.tree_model.specs.declared.text.Name.{Name}
+use Rattle.axis_steps.specs.Steps.{IsStanding}
+
+abbrev pub IsNamed : List Name → Row → Type 0
+IsNamed names row = row.name < length names
+
+pub stands : (names : List Name) (rows : List Row) (f : Forest Label) → lines_of names [] rows ≡ flatten f → HasKinds f → All (IsNamed names) rows → IsStanding names rows
+stands names rows f e kinds named = record {
+  trees = ([], record { flat = is_flat _ f e; kinds = subst HasKinds (sym (grove_is _ f e)) kinds });
+  named = named;
+}
+
+-- a row without attributes and value
+abbrev pub row : Kind → ℕ → ℕ → ℕ → Row
+row kind name dist size = record { kind = kind; name = name; dist = dist; size = size; asize = 1; id = 0; val = record { at = 0; len = 0 } }
+
+abbrev pub leaf : ℕ → Row
+leaf dist = row Elem 3 dist 1
+
+-- elements in one another, each with a leaf in it before the next
+abbrev pub chain : ℕ → List Row
+chain zero = []
+chain (suc n) = row Elem 1 2 (2 * suc n) ∷ (leaf 1 ∷ chain n)
+
+abbrev pub nested_rows : ℕ → List Row
+nested_rows n = row Doc 0 0 (2 * n + 2) ∷ (row Comm 0 1 1 ∷ chain n)
+
+-- leaves beside one another, the first at a distance
+abbrev pub leaves : ℕ → ℕ → List Row
+leaves d zero = []
+leaves d (suc n) = leaf d ∷ leaves (d + 1) n
+
+abbrev pub flat_rows : ℕ → List Row
+flat_rows n = row Doc 0 0 (n + 2) ∷ (row Elem 1 1 (n + 1) ∷ leaves 1 n)
+
+pub chain_step : (n : ℕ) → 0 < n → chain n ≡ row Elem 1 2 (2 * n) ∷ (leaf 1 ∷ chain (n - 1))
+chain_step zero h = absurd (omega (arith, h))
+chain_step (suc n) h = ap (λ k. row Elem 1 2 (2 * suc n) ∷ (leaf 1 ∷ chain k)) (omega arith)
+
+pub leaves_step : (d n : ℕ) → 0 < n → leaves d n ≡ leaf d ∷ leaves (d + 1) (n - 1)
+leaves_step d zero h = absurd (omega (arith, h))
+leaves_step d (suc n) h = ap (λ k. leaf d ∷ leaves (d + 1) k) (omega arith)
+
+-- rows are pushed, one or two, of those that are still to come
+pub push_one : (xs rest more all : List Row) (a : Row) → rest ≡ a ∷ more → xs ++ rest ≡ all → (xs ++ a ∷ []) ++ more ≡ all
+push_one xs rest more all a e h = append_assoc xs (a ∷ []) more ∙ ap (λ ls. xs ++ ls) (sym e) ∙ h
+
+pub push_two : (xs rest more all : List Row) (a b : Row) → rest ≡ a ∷ (b ∷ more) → xs ++ rest ≡ all → ((xs ++ a ∷ []) ++ b ∷ []) ++ more ≡ all
+push_two xs rest more all a b e h = append_assoc (xs ++ a ∷ []) (b ∷ []) more ∙ append_assoc xs (a ∷ []) (b ∷ more) ∙ ap (λ ls. xs ++ ls) (sym e) ∙ h
+
+-- nothing is to come any more
+pub all_pushed : (xs all : List Row) (rest : ℕ → List Row) (k : ℕ) → rest 0 ≡ [] → k ≡ 0 → xs ++ rest k ≡ all → xs ≡ all
+all_pushed xs all rest k none_left zero_left h = sym (append-nil xs) ∙ ap (λ ls. xs ++ ls) (sym none_left ∙ ap rest (sym zero_left)) ∙ h
+
+module _ (names : List Name) where
+  abbrev label : Kind → ℕ → Label
+  label kind name = label_of names [] (row kind name 0 0)
+
+  abbrev chain_trees : ℕ → Forest Label
+  chain_trees zero = none
+  chain_trees (suc n) = tree (label Elem 1) [] (tree (label Elem 3) [] none (chain_trees n)) none
+
+  abbrev leaf_trees : ℕ → Forest Label
+  leaf_trees zero = none
+  leaf_trees (suc n) = tree (label Elem 3) [] none (leaf_trees n)
+
+  abbrev line : Kind → ℕ → ℕ → ℕ → Line Label
+  line kind name dist size = record { label = label kind name; dist = dist; size = size; asize = 1 }
+
+  chain_count : (n : ℕ) → count (chain_trees n) ≡ 2 * n
+  chain_count zero = refl
+  chain_count (suc n) = omega (arith, chain_count n)
+
+  leaf_count : (n : ℕ) → count (leaf_trees n) ≡ n
+  leaf_count zero = refl
+  leaf_count (suc n) = omega (arith, leaf_count n)
+
+  chain_lines : (n : ℕ) → lines_of names [] (chain n) ≡ lines 2 (chain_trees n)
+  chain_lines zero = refl
+  chain_lines (suc n) =
+      let size : 2 * suc n ≡ 1 + 0 + (1 + 0 + 0 + count (chain_trees n)) = omega (arith, chain_count n) in
+      ap (λ k. line Elem 1 2 k ∷ (line Elem 3 1 1 ∷ lines_of names [] (chain n))) size
+      ∙ ap (λ ls. line Elem 1 2 (1 + 0 + (1 + 0 + 0 + count (chain_trees n))) ∷ (line Elem 3 1 1 ∷ ls)) (chain_lines n ∙ sym (append-nil (lines 2 (chain_trees n))))
+
+  leaf_lines : (d n : ℕ) → lines_of names [] (leaves (suc d) n) ≡ lines (suc d) (leaf_trees n)
+  leaf_lines d zero = refl
+  leaf_lines d (suc n) =
+      let next : suc d + 1 ≡ suc (d + 1) = omega arith in
+      ap (λ ls. line Elem 3 (suc d) 1 ∷ ls) (ap (λ e. lines_of names [] (leaves e n)) next ∙ leaf_lines (d + 1) n)
+
+  chain_kinds : (n : ℕ) → HasKinds (chain_trees n)
+  chain_kinds zero = tt
+  chain_kinds (suc n) = (refl, refl, (refl, refl, tt, chain_kinds n), tt)
+
+  leaf_kinds : (n : ℕ) → HasKinds (leaf_trees n)
+  leaf_kinds zero = tt
+  leaf_kinds (suc n) = (refl, refl, tt, leaf_kinds n)
+
+  module _ (h : length names ≡ 6) where
+    more_named : (r : Row) (rows : List Row) → r.name < 6 → All (IsNamed names) rows → All (IsNamed names) (r ∷ rows)
+    more_named r rows less more = All-cons (IsNamed names) r rows (omega (arith, h, less)) more
+
+    chain_named : (n : ℕ) → All (IsNamed names) (chain n)
+    chain_named zero = All-nil _
+    chain_named (suc n) = more_named (row Elem 1 2 (2 * suc n)) (leaf 1 ∷ chain n) (omega arith) (more_named (leaf 1) (chain n) (omega arith) (chain_named n))
+
+    leaves_named : (d n : ℕ) → All (IsNamed names) (leaves d n)
+    leaves_named d zero = All-nil _
+    leaves_named d (suc n) = more_named (leaf d) (leaves (d + 1) n) (omega arith) (leaves_named (d + 1) n)
+
+    pub nested_stands : (n : ℕ) → IsStanding names (nested_rows n)
+    nested_stands n =
+        let size : 2 * n + 2 ≡ 1 + (1 + count (chain_trees n)) = omega (arith, chain_count n) in
+        stands names (nested_rows n) (tree (label Doc 0) [] (tree (label Comm 0) [] none (chain_trees n)) none)
+        (ap (λ k. line Doc 0 0 k ∷ (line Comm 0 1 1 ∷ lines_of names [] (chain n))) size
+        ∙ ap (λ ls. line Doc 0 0 (1 + (1 + count (chain_trees n))) ∷ (line Comm 0 1 1 ∷ ls)) (chain_lines n ∙ sym (append-nil (lines 2 (chain_trees n)))))
+        (refl, refl, (refl, refl, tt, chain_kinds n), tt)
+        (more_named (row Doc 0 0 (2 * n + 2)) (row Comm 0 1 1 ∷ chain n) (omega arith) (more_named (row Comm 0 1 1) (chain n) (omega arith) (chain_named n)))
+
+    pub flat_stands : (n : ℕ) → IsStanding names (flat_rows n)
+    flat_stands n =
+        let inner : n + 1 ≡ 1 + 0 + count (leaf_trees n) = omega (arith, leaf_count n) in
+        let size : n + 2 ≡ 1 + 0 + (1 + 0 + count (leaf_trees n) + 0) = omega (arith, leaf_count n) in
+        stands names (flat_rows n) (tree (label Doc 0) [] (tree (label Elem 1) [] (leaf_trees n) none) none)
+        (ap (λ k. line Doc 0 0 k ∷ (line Elem 1 1 (n + 1) ∷ lines_of names [] (leaves 1 n))) size
+        ∙ ap (λ k. line Doc 0 0 (1 + 0 + (1 + 0 + count (leaf_trees n) + 0)) ∷ (line Elem 1 1 k ∷ lines_of names [] (leaves 1 n))) inner
+        ∙ ap (λ ls. line Doc 0 0 (1 + 0 + (1 + 0 + count (leaf_trees n) + 0)) ∷ (line Elem 1 1 (1 + 0 + count (leaf_trees n)) ∷ ls))
+        (leaf_lines 0 n ∙ sym (append-nil (lines 1 (leaf_trees n))) ∙ sym (append-nil (lines 1 (leaf_trees n) ++ []))))
+        (refl, refl, (refl, refl, leaf_kinds n, tt), tt)
+        (more_named (row Doc 0 0 (n + 2)) (row Elem 1 1 (n + 1) ∷ leaves 1 n) (omega arith) (more_named (row Elem 1 1 (n + 1)) (leaves 1 n) (omega arith) (leaves_named 1 n)))

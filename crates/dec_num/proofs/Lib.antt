@@ -1,0 +1,4 @@
+pub mod Casts
+pub mod Digits
+pub mod Growing
+pub mod Sizes

@@ -1,0 +1,2 @@
+-- What meters tell of work.
+pub mod Meters

@@ -1,0 +1,183 @@
+// Node tests.
+ghost use Rattle.std.specs.Prelude.{◌≡◌};
+ghost use Rattle.query_lexis.specs.Rule.{opt};
+ghost use Rattle.query_lexis.specs.Paths as spec;
+ghost use Rattle.query_lexis.specs.Reads.{at, as_target, as_maybe_target, as_name, as_test, Reads};
+
+use crate::source::Source;
+use crate::written::{Target, WrittenTest};
+
+impl<'a> Source<'a> {
+    #[tactic(auto, unfolding(crate::specs::Paths::bare_kind_name))]
+    fn bare_kind_name(&self, rest: &'a str) -> Option<(WrittenTest<'a>, &'a str)>
+        ensures { Reads (as_test self.now) (at self.now spec.bare_kind_name rest.now) result }
+    {
+        if let Some(after) = self.word(rest, "node") {
+            return Some((WrittenTest::Node, after));
+        }
+        if let Some(after) = self.word(rest, "text") {
+            return Some((WrittenTest::Text, after));
+        }
+        if let Some(after) = self.word(rest, "comment") {
+            return Some((WrittenTest::Comment, after));
+        }
+        let after = self.word(rest, "document-node")?;
+        Some((WrittenTest::Document, after))
+    }
+
+    #[tactic(auto, unfolding(crate::specs::Paths::bare_kind))]
+    fn bare_kind(&self, rest: &'a str) -> Option<(WrittenTest<'a>, &'a str)>
+        ensures { Reads (as_test self.now) (at self.now spec.bare_kind rest.now) result }
+    {
+        let (found, after) = self.bare_kind_name(rest)?;
+        let after = self.blanks(after);
+        let after = self.word(after, "(")?;
+        let after = self.blanks(after);
+        let after = self.word(after, ")")?;
+        Some((found, after))
+    }
+
+    #[tactic(auto, unfolding(crate::specs::Paths::target))]
+    fn target(&self, rest: &'a str) -> Option<(Target<'a>, &'a str)>
+        ensures { Reads (as_target self.now) (at self.now spec.target rest.now) result }
+    {
+        if let Some((name, after)) = self.ncname(rest) {
+            return Some((Target::Name(name), after));
+        }
+        self.string(rest)
+    }
+
+    fn maybe_target(&self, rest: &'a str) -> (Option<Target<'a>>, &'a str)
+        ensures { at self.now (opt spec.target) rest.now ≡ Ok (as_maybe_target self.now result.0, result.1.now) }
+    {
+        match self.target(rest) {
+            Some((found, after)) => (Some(found), after),
+            None => (None, rest),
+        }
+    }
+
+    #[tactic(auto, unfolding(crate::specs::Paths::target_in_parentheses))]
+    fn target_in_parentheses(&self, rest: &'a str) -> Option<(Option<Target<'a>>, &'a str)>
+        ensures { Reads (as_maybe_target self.now) (at self.now spec.target_in_parentheses rest.now) result }
+    {
+        let after = self.blanks(rest);
+        let after = self.word(after, "(")?;
+        let after = self.blanks(after);
+        let (found, after) = self.maybe_target(after);
+        let after = self.blanks(after);
+        let after = self.word(after, ")")?;
+        Some((found, after))
+    }
+
+    #[tactic(auto, unfolding(crate::specs::Paths::instruction_kind))]
+    fn instruction_kind(&self, rest: &'a str) -> Option<(WrittenTest<'a>, &'a str)>
+        ensures { Reads (as_test self.now) (at self.now spec.instruction_kind rest.now) result }
+    {
+        let after = self.word(rest, "processing-instruction")?;
+        let (found, after) = self.target_in_parentheses(after)?;
+        Some((WrittenTest::Pi(found), after))
+    }
+
+    #[tactic(auto, unfolding(crate::specs::Paths::name_or_all))]
+    fn name_or_all(&self, rest: &'a str) -> Option<(Option<&'a str>, &'a str)>
+        ensures { Reads as_name (at self.now spec.name_or_all rest.now) result }
+    {
+        if let Some((name, after)) = self.ncname(rest) {
+            return Some((Some(name), after));
+        }
+        let after = self.word(rest, "*")?;
+        Some((None, after))
+    }
+
+    fn maybe_name(&self, rest: &'a str) -> (Option<&'a str>, &'a str)
+        ensures { at self.now (opt spec.name_or_all) rest.now ≡ Ok (as_name result.0, result.1.now) }
+    {
+        match self.name_or_all(rest) {
+            Some(found) => found,
+            None => (None, rest),
+        }
+    }
+
+    #[tactic(auto, unfolding(crate::specs::Paths::name_in_parentheses))]
+    fn name_in_parentheses(&self, rest: &'a str) -> Option<(Option<&'a str>, &'a str)>
+        ensures { Reads as_name (at self.now spec.name_in_parentheses rest.now) result }
+    {
+        let after = self.blanks(rest);
+        let after = self.word(after, "(")?;
+        let after = self.blanks(after);
+        let (name, after) = self.maybe_name(after);
+        let after = self.blanks(after);
+        let after = self.word(after, ")")?;
+        Some((name, after))
+    }
+
+    #[tactic(auto, unfolding(crate::specs::Paths::element_kind))]
+    fn element_kind(&self, rest: &'a str) -> Option<(WrittenTest<'a>, &'a str)>
+        ensures { Reads (as_test self.now) (at self.now spec.element_kind rest.now) result }
+    {
+        let after = self.word(rest, "element")?;
+        let (name, after) = self.name_in_parentheses(after)?;
+        Some((WrittenTest::Element(name), after))
+    }
+
+    #[tactic(auto, unfolding(crate::specs::Paths::attribute_kind))]
+    fn attribute_kind(&self, rest: &'a str) -> Option<(WrittenTest<'a>, &'a str)>
+        ensures { Reads (as_test self.now) (at self.now spec.attribute_kind rest.now) result }
+    {
+        let after = self.word(rest, "attribute")?;
+        let (name, after) = self.name_in_parentheses(after)?;
+        Some((WrittenTest::Attribute(name), after))
+    }
+
+    /// A test for nodes of a kind (XQuery 1.0, section 3.2.1.2).
+    #[tactic(auto, unfolding(crate::specs::Paths::kind_test))]
+    pub fn kind_test(&self, rest: &'a str) -> Option<(WrittenTest<'a>, &'a str)>
+        ensures { Reads (as_test self.now) (at self.now spec.kind_test rest.now) result }
+    {
+        if let Some(found) = self.bare_kind(rest) {
+            return Some(found);
+        }
+        if let Some(found) = self.instruction_kind(rest) {
+            return Some(found);
+        }
+        if let Some(found) = self.element_kind(rest) {
+            return Some(found);
+        }
+        self.attribute_kind(rest)
+    }
+
+    #[tactic(auto, unfolding(crate::specs::Paths::local_name_test))]
+    fn local_name_test(&self, rest: &'a str) -> Option<(WrittenTest<'a>, &'a str)>
+        ensures { Reads (as_test self.now) (at self.now spec.local_name_test rest.now) result }
+    {
+        let after = self.word(rest, "*:")?;
+        let (name, after) = self.ncname(after)?;
+        Some((WrittenTest::LocalName(name), after))
+    }
+
+    /// A test by name, without a prefix (XQuery 1.0, section 3.2.1.2).
+    #[tactic(auto, unfolding(crate::specs::Paths::name_test))]
+    pub fn name_test(&self, rest: &'a str) -> Option<(WrittenTest<'a>, &'a str)>
+        ensures { Reads (as_test self.now) (at self.now spec.name_test rest.now) result }
+    {
+        if let Some(found) = self.local_name_test(rest) {
+            return Some(found);
+        }
+        if let Some(after) = self.word(rest, "*") {
+            return Some((WrittenTest::All, after));
+        }
+        let (name, after) = self.ncname(rest)?;
+        Some((WrittenTest::Name(name), after))
+    }
+
+    /// A node test. What begins like a kind and isn't one is a name.
+    #[tactic(auto, unfolding(crate::specs::Paths::node_test))]
+    pub fn node_test(&self, rest: &'a str) -> Option<(WrittenTest<'a>, &'a str)>
+        ensures { Reads (as_test self.now) (at self.now spec.node_test rest.now) result }
+    {
+        if let Some(found) = self.kind_test(rest) {
+            return Some(found);
+        }
+        self.name_test(rest)
+    }
+}
