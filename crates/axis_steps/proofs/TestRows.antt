@@ -26,37 +26,35 @@ stands names rows f e kinds named = record {
 abbrev pub row : Kind → ℕ → ℕ → ℕ → Row
 row kind name dist size = record { kind = kind; name = name; dist = dist; size = size; asize = 1; id = 0; val = record { at = 0; len = 0 } }
 
-abbrev pub leaf : ℕ → Row
-leaf dist = row Elem 3 dist 1
+abbrev pub leaf : Row
+leaf = row Elem 3 1 1
 
 -- elements in one another, each with a leaf in it before the next
 abbrev pub chain : ℕ → List Row
 chain zero = []
-chain (suc n) = row Elem 1 2 (2 * suc n) ∷ (leaf 1 ∷ chain n)
+chain (suc n) = row Elem 1 2 (2 * suc n) ∷ (leaf ∷ chain n)
 
 abbrev pub nested_rows : ℕ → List Row
 nested_rows n = row Doc 0 0 (2 * n + 2) ∷ (row Comm 0 1 1 ∷ chain n)
 
--- leaves beside one another, the first at a distance
-abbrev pub leaves : ℕ → ℕ → List Row
-leaves d zero = []
-leaves d (suc n) = leaf d ∷ leaves (d + 1) n
+-- elements beside one another, the first at a distance, each with a leaf in it
+abbrev pub pairs : ℕ → ℕ → List Row
+pairs d zero = []
+pairs d (suc n) = row Elem 3 d 2 ∷ (leaf ∷ pairs (d + 2) n)
 
 abbrev pub flat_rows : ℕ → List Row
-flat_rows n = row Doc 0 0 (n + 2) ∷ (row Elem 1 1 (n + 1) ∷ leaves 1 n)
+flat_rows n = row Doc 0 0 (2 * n + 2) ∷ (row Elem 1 1 (2 * n + 1) ∷ pairs 1 n)
 
-pub chain_step : (n : ℕ) → 0 < n → chain n ≡ row Elem 1 2 (2 * n) ∷ (leaf 1 ∷ chain (n - 1))
+pub chain_step : (n : ℕ) → 0 < n → chain n ≡ row Elem 1 2 (2 * n) ∷ (leaf ∷ chain (n - 1))
 chain_step zero h = absurd (omega (arith, h))
-chain_step (suc n) h = ap (λ k. row Elem 1 2 (2 * suc n) ∷ (leaf 1 ∷ chain k)) (omega arith)
+chain_step (suc n) h = ap (λ k. row Elem 1 2 (2 * suc n) ∷ (leaf ∷ chain k)) (omega arith)
 
-pub leaves_step : (d n : ℕ) → 0 < n → leaves d n ≡ leaf d ∷ leaves (d + 1) (n - 1)
-leaves_step d zero h = absurd (omega (arith, h))
-leaves_step d (suc n) h = ap (λ k. leaf d ∷ leaves (d + 1) k) (omega arith)
+pub pairs_step : (d e n : ℕ) → 0 < n → e ≡ d + 2 → pairs d n ≡ row Elem 3 d 2 ∷ (leaf ∷ pairs e (n - 1))
+pairs_step d e zero h next = absurd (omega (arith, h))
+pairs_step d e (suc n) h next =
+    ap (λ k. row Elem 3 d 2 ∷ (leaf ∷ pairs (d + 2) k)) (omega arith) ∙ ap (λ k. row Elem 3 d 2 ∷ (leaf ∷ pairs k (suc n - 1))) (sym next)
 
--- rows are pushed, one or two, of those that are still to come
-pub push_one : (xs rest more all : List Row) (a : Row) → rest ≡ a ∷ more → xs ++ rest ≡ all → (xs ++ a ∷ []) ++ more ≡ all
-push_one xs rest more all a e h = append_assoc xs (a ∷ []) more ∙ ap (λ ls. xs ++ ls) (sym e) ∙ h
-
+-- two rows are pushed of those that are still to come
 pub push_two : (xs rest more all : List Row) (a b : Row) → rest ≡ a ∷ (b ∷ more) → xs ++ rest ≡ all → ((xs ++ a ∷ []) ++ b ∷ []) ++ more ≡ all
 push_two xs rest more all a b e h = append_assoc (xs ++ a ∷ []) (b ∷ []) more ∙ append_assoc xs (a ∷ []) (b ∷ more) ∙ ap (λ ls. xs ++ ls) (sym e) ∙ h
 
@@ -72,9 +70,9 @@ module _ (names : List Name) where
   chain_trees zero = none
   chain_trees (suc n) = tree (label Elem 1) [] (tree (label Elem 3) [] none (chain_trees n)) none
 
-  abbrev leaf_trees : ℕ → Forest Label
-  leaf_trees zero = none
-  leaf_trees (suc n) = tree (label Elem 3) [] none (leaf_trees n)
+  abbrev pair_trees : ℕ → Forest Label
+  pair_trees zero = none
+  pair_trees (suc n) = tree (label Elem 3) [] (tree (label Elem 3) [] none none) (pair_trees n)
 
   abbrev line : Kind → ℕ → ℕ → ℕ → Line Label
   line kind name dist size = record { label = label kind name; dist = dist; size = size; asize = 1 }
@@ -83,9 +81,9 @@ module _ (names : List Name) where
   chain_count zero = refl
   chain_count (suc n) = omega (arith, chain_count n)
 
-  leaf_count : (n : ℕ) → count (leaf_trees n) ≡ n
-  leaf_count zero = refl
-  leaf_count (suc n) = omega (arith, leaf_count n)
+  pair_count : (n : ℕ) → count (pair_trees n) ≡ 2 * n
+  pair_count zero = refl
+  pair_count (suc n) = omega (arith, pair_count n)
 
   chain_lines : (n : ℕ) → lines_of names [] (chain n) ≡ lines 2 (chain_trees n)
   chain_lines zero = refl
@@ -94,19 +92,19 @@ module _ (names : List Name) where
       ap (λ k. line Elem 1 2 k ∷ (line Elem 3 1 1 ∷ lines_of names [] (chain n))) size
       ∙ ap (λ ls. line Elem 1 2 (1 + 0 + (1 + 0 + 0 + count (chain_trees n))) ∷ (line Elem 3 1 1 ∷ ls)) (chain_lines n ∙ sym (append-nil (lines 2 (chain_trees n))))
 
-  leaf_lines : (d n : ℕ) → lines_of names [] (leaves (suc d) n) ≡ lines (suc d) (leaf_trees n)
-  leaf_lines d zero = refl
-  leaf_lines d (suc n) =
-      let next : suc d + 1 ≡ suc (d + 1) = omega arith in
-      ap (λ ls. line Elem 3 (suc d) 1 ∷ ls) (ap (λ e. lines_of names [] (leaves e n)) next ∙ leaf_lines (d + 1) n)
+  pair_lines : (d n : ℕ) → lines_of names [] (pairs (suc d) n) ≡ lines (suc d) (pair_trees n)
+  pair_lines d zero = refl
+  pair_lines d (suc n) =
+      let next : suc d + 2 ≡ suc (d + 2) = omega arith in
+      ap (λ ls. line Elem 3 (suc d) 2 ∷ (line Elem 3 1 1 ∷ ls)) (ap (λ e. lines_of names [] (pairs e n)) next ∙ pair_lines (d + 2) n)
 
   chain_kinds : (n : ℕ) → HasKinds (chain_trees n)
   chain_kinds zero = tt
   chain_kinds (suc n) = (refl, refl, (refl, refl, tt, chain_kinds n), tt)
 
-  leaf_kinds : (n : ℕ) → HasKinds (leaf_trees n)
-  leaf_kinds zero = tt
-  leaf_kinds (suc n) = (refl, refl, tt, leaf_kinds n)
+  pair_kinds : (n : ℕ) → HasKinds (pair_trees n)
+  pair_kinds zero = tt
+  pair_kinds (suc n) = (refl, refl, (refl, refl, tt, tt), pair_kinds n)
 
   module _ (h : length names ≡ 6) where
     more_named : (r : Row) (rows : List Row) → r.name < 6 → All (IsNamed names) rows → All (IsNamed names) (r ∷ rows)
@@ -114,11 +112,11 @@ module _ (names : List Name) where
 
     chain_named : (n : ℕ) → All (IsNamed names) (chain n)
     chain_named zero = All-nil _
-    chain_named (suc n) = more_named (row Elem 1 2 (2 * suc n)) (leaf 1 ∷ chain n) (omega arith) (more_named (leaf 1) (chain n) (omega arith) (chain_named n))
+    chain_named (suc n) = more_named (row Elem 1 2 (2 * suc n)) (leaf ∷ chain n) (omega arith) (more_named (leaf) (chain n) (omega arith) (chain_named n))
 
-    leaves_named : (d n : ℕ) → All (IsNamed names) (leaves d n)
-    leaves_named d zero = All-nil _
-    leaves_named d (suc n) = more_named (leaf d) (leaves (d + 1) n) (omega arith) (leaves_named (d + 1) n)
+    pairs_named : (d n : ℕ) → All (IsNamed names) (pairs d n)
+    pairs_named d zero = All-nil _
+    pairs_named d (suc n) = more_named (row Elem 3 d 2) (leaf ∷ pairs (d + 2) n) (omega arith) (more_named leaf (pairs (d + 2) n) (omega arith) (pairs_named (d + 2) n))
 
     pub nested_stands : (n : ℕ) → IsStanding names (nested_rows n)
     nested_stands n =
@@ -131,12 +129,12 @@ module _ (names : List Name) where
 
     pub flat_stands : (n : ℕ) → IsStanding names (flat_rows n)
     flat_stands n =
-        let inner : n + 1 ≡ 1 + 0 + count (leaf_trees n) = omega (arith, leaf_count n) in
-        let size : n + 2 ≡ 1 + 0 + (1 + 0 + count (leaf_trees n) + 0) = omega (arith, leaf_count n) in
-        stands names (flat_rows n) (tree (label Doc 0) [] (tree (label Elem 1) [] (leaf_trees n) none) none)
-        (ap (λ k. line Doc 0 0 k ∷ (line Elem 1 1 (n + 1) ∷ lines_of names [] (leaves 1 n))) size
-        ∙ ap (λ k. line Doc 0 0 (1 + 0 + (1 + 0 + count (leaf_trees n) + 0)) ∷ (line Elem 1 1 k ∷ lines_of names [] (leaves 1 n))) inner
-        ∙ ap (λ ls. line Doc 0 0 (1 + 0 + (1 + 0 + count (leaf_trees n) + 0)) ∷ (line Elem 1 1 (1 + 0 + count (leaf_trees n)) ∷ ls))
-        (leaf_lines 0 n ∙ sym (append-nil (lines 1 (leaf_trees n))) ∙ sym (append-nil (lines 1 (leaf_trees n) ++ []))))
-        (refl, refl, (refl, refl, leaf_kinds n, tt), tt)
-        (more_named (row Doc 0 0 (n + 2)) (row Elem 1 1 (n + 1) ∷ leaves 1 n) (omega arith) (more_named (row Elem 1 1 (n + 1)) (leaves 1 n) (omega arith) (leaves_named 1 n)))
+        let inner : 2 * n + 1 ≡ 1 + 0 + count (pair_trees n) = omega (arith, pair_count n) in
+        let size : 2 * n + 2 ≡ 1 + 0 + (1 + 0 + count (pair_trees n) + 0) = omega (arith, pair_count n) in
+        stands names (flat_rows n) (tree (label Doc 0) [] (tree (label Elem 1) [] (pair_trees n) none) none)
+        (ap (λ k. line Doc 0 0 k ∷ (line Elem 1 1 (2 * n + 1) ∷ lines_of names [] (pairs 1 n))) size
+        ∙ ap (λ k. line Doc 0 0 (1 + 0 + (1 + 0 + count (pair_trees n) + 0)) ∷ (line Elem 1 1 k ∷ lines_of names [] (pairs 1 n))) inner
+        ∙ ap (λ ls. line Doc 0 0 (1 + 0 + (1 + 0 + count (pair_trees n) + 0)) ∷ (line Elem 1 1 (1 + 0 + count (pair_trees n)) ∷ ls))
+        (pair_lines 0 n ∙ sym (append-nil (lines 1 (pair_trees n))) ∙ sym (append-nil (lines 1 (pair_trees n) ++ []))))
+        (refl, refl, (refl, refl, pair_kinds n, tt), tt)
+        (more_named (row Doc 0 0 (2 * n + 2)) (row Elem 1 1 (2 * n + 1) ∷ pairs 1 n) (omega arith) (more_named (row Elem 1 1 (2 * n + 1)) (pairs 1 n) (omega arith) (pairs_named 1 n)))

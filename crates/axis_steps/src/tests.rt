@@ -446,7 +446,7 @@ fn nested(alloc: Global, count: u32) -> Result<Vec<Row>, NoMemory>
     Ok(rows)
 }
 
-// The rows of a document with an element `a`, which has `count` elements `b`.
+// The rows of a document with an element `a`, which has `count` elements `b`, each with a `b` in it.
 fn side_by_side(alloc: Global, count: u32) -> Result<Vec<Row>, NoMemory>
     requires { count ≤ 10000 }
     ensures trees { IfOk result (λ rows. (names : List Name) → length names ≡ 6 → IsStanding names rows.items) }
@@ -458,18 +458,23 @@ fn side_by_side(alloc: Global, count: u32) -> Result<Vec<Row>, NoMemory>
         kind: Kind::Doc,
         name: 0,
         dist: 0,
-        size: count + 2,
+        size: 2 * count + 2,
         ..LEAF
     })?;
     rows.push(Row {
         name: 1,
-        size: count + 1,
+        size: 2 * count + 1,
         ..LEAF
     })?;
-    let mut dist = 1;
-    while dist <= count {
-        rows.push(Row { dist, ..LEAF })?;
-        dist += 1;
+    let mut left = count;
+    while left > 0 {
+        rows.push(Row {
+            dist: 2 * (count - left) + 1,
+            size: 2,
+            ..LEAF
+        })?;
+        rows.push(LEAF)?;
+        left -= 1;
     }
     Ok(rows)
 }
@@ -527,11 +532,11 @@ fn nested_elements(rt: HostRuntime) -> Result<(), Fail> {
 fn elements_side_by_side(rt: HostRuntime) -> Result<(), Fail> {
     let rows = side_by_side(rt.alloc(), 5000)?;
     for (axis, count) in [
-        (Axis::Ancestor, 1),
+        (Axis::Ancestor, 5001),
         (Axis::FollowingSibling, 4999),
         (Axis::PrecedingSibling, 4999),
-        (Axis::Following, 4999),
-        (Axis::Preceding, 4999),
+        (Axis::Following, 9998),
+        (Axis::Preceding, 9998),
     ] {
         let steps = behind_each(rt.alloc(), axis, ANY)?;
         assert_eq!(rt;

@@ -1,23 +1,24 @@
-use Rattle.std.proofs.Common.{◌≡◌, ◌∷◌, ◌+◌, ◌-◌, arith, refl, subst, sym, ap, ◌∙◌}
+use Rattle.std.proofs.Common.{◌≡◌, ◌+◌, ◌-◌, ◌*◌, arith, refl, subst, sym}
 use Rattle.axis_steps.specs.Steps.{IsStanding}
-use Rattle.axis_steps.proofs.TestRows.{leaf, leaves, flat_rows, leaves_step, push_one, all_pushed, flat_stands}
+use Rattle.axis_steps.proofs.TestRows.{pairs, flat_rows, pairs_step, push_two, all_pushed, flat_stands}
 use Rattle.axis_steps.proofs.tests.side_by_side.Goals as goal
 
-pub loop-dist-preserved : goal.loop-dist-preserved
-loop-dist-preserved c =
-    let dist = c.loop-dist.dist in
-    let left = c.args.count + 1 - dist in
-    let less : c.args.count + 1 - (dist + 1) ≡ left - 1 = omega arith in
+pub loop-left-preserved : goal.loop-left-preserved
+loop-left-preserved c =
+    let left = c.loop-left.left in
+    let at = 2 * (c.args.count - left) + 1 in
+    let next = 2 * (c.args.count - (left - 1)) + 1 in
+    let further : next ≡ at + 2 = omega (arith, c.loop-left-test.true, c.loop-left.invariant.few) in
     record {
-      rows = rw c.in_ok-push-3.ensures.items (push_one c.loop-dist.rows.items (leaves dist left) (leaves (dist + 1) (c.args.count + 1 - (dist + 1))) (flat_rows c.args.count) _
-          (leaves_step dist left (omega (arith, c.loop-dist-test.true)) ∙ ap (λ k. leaf dist ∷ leaves (dist + 1) k) (sym less)) c.loop-dist.invariant.rows);
-      len = omega (arith, c.in_ok-push-3.ensures.len, c.loop-dist.invariant.len);
-      few = omega (arith, c.loop-dist-test.true);
+      rows = rw c.in_ok-push-4.ensures.items (rw c.in_ok-push-3.ensures.items
+          (push_two c.loop-left.rows.items (pairs at left) (pairs next (left - 1)) (flat_rows c.args.count) _ _ (pairs_step at next left c.loop-left-test.true further) c.loop-left.invariant.rows));
+      len = omega (arith, c.in_ok-push-4.ensures.len, c.in_ok-push-3.ensures.len, c.loop-left.invariant.len, c.loop-left-test.true);
+      few = omega (arith, c.loop-left.invariant.few);
     }
 
 pub returns-clause-trees : goal.returns-clause-trees
 returns-clause-trees c = λ names h.
-    let none_left : c.args.count + 1 - c.loop-dist.dist ≡ 0 = omega (arith, c.loop-dist-test.false) in
+    let zero_left : c.loop-left.left ≡ 0 = omega (arith, c.loop-left-test.false) in
     subst (λ rows. IsStanding names rows)
-    (sym (all_pushed c.loop-dist.rows.items (flat_rows c.args.count) (leaves c.loop-dist.dist) _ refl none_left c.loop-dist.invariant.rows))
+    (sym (all_pushed c.loop-left.rows.items (flat_rows c.args.count) (pairs (2 * (c.args.count - c.loop-left.left) + 1)) c.loop-left.left refl zero_left c.loop-left.invariant.rows))
     (flat_stands names h c.args.count)
