@@ -1,0 +1,8 @@
+//! Where a term of a query stands: the namespaces in force and the variables in scope.
+#![tactic(auto)]
+
+mod declared;
+mod environment;
+
+pub use declared::{declare_all, is_declaration};
+pub use environment::{Environment, FUNCTIONS_URI, XML_URI, XMLNS_URI};

@@ -1,0 +1,10 @@
+pub mod Rule
+pub mod Lexis
+pub mod Tests
+pub mod Constructors
+pub mod Markup
+pub mod Grammar
+pub mod Parse
+pub mod Static
+pub mod Resolved
+pub mod Updating

@@ -1,0 +1,43 @@
+-- Which expressions are updating (XQuery Update Facility 1.0, section 2.2).
+use Rattle.std.specs.Prelude.{Bool, true, false, ◌||◌}
+use Rattle.query_terms.specs.declared.tree.Clause.TheOpen.{Attribute-F, Clause-F, Content-F, Expr-F, Operand-F, OrderKey-F, PathStep-F}
+use Rattle.query_terms.specs.declared.tree.Clause.TheFolds.{fold-Expr}
+use Rattle.query_terms.specs.declared.tree.Expr.{Expr}
+use Rattle.query_terms.specs.declared.tree.Query.{Query}
+use Rattle.query_terms.specs.Constructors.{Level, some, maybe}
+
+abbrev pub in_expression : Level → Bool
+in_expression (Expr-F.Comma span first others) = first || some others
+in_expression (Expr-F.Flwor span clauses condition order result) = result
+in_expression (Expr-F.If span condition positive negative) = positive || negative
+in_expression (Expr-F.Insert span source place target) = true
+in_expression (Expr-F.Delete span target) = true
+in_expression (Expr-F.Replace span is_value target source) = true
+in_expression (Expr-F.Rename span target name scope) = true
+in_expression (Expr-F.Parenthesized span body) = maybe body
+in_expression _ = false
+
+-- no other part than an expression is
+abbrev pub in_clause : Clause-F Bool Bool Bool Bool Bool Bool Bool → Bool
+in_clause c = false
+
+abbrev pub in_content : Content-F Bool Bool Bool Bool Bool Bool Bool → Bool
+in_content c = false
+
+abbrev pub in_attribute : Attribute-F Bool Bool Bool Bool Bool Bool Bool → Bool
+in_attribute a = false
+
+abbrev pub in_operand : Operand-F Bool Bool Bool Bool Bool Bool Bool → Bool
+in_operand o = false
+
+abbrev pub in_key : OrderKey-F Bool Bool Bool Bool Bool Bool Bool → Bool
+in_key k = false
+
+abbrev pub in_step : PathStep-F Bool Bool Bool Bool Bool Bool Bool → Bool
+in_step s = false
+
+unfoldable pub is_updating : Expr → Bool
+is_updating = fold-Expr Bool Bool Bool Bool Bool Bool Bool in_clause in_content in_expression in_attribute in_operand in_key in_step
+
+abbrev pub is_updating_query : Query → Bool
+is_updating_query q = is_updating q.body

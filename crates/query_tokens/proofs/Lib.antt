@@ -1,0 +1,10 @@
+pub mod Words
+pub mod Keeping
+pub mod Looking
+pub mod Openings
+pub mod Tokens
+pub mod Loops
+pub mod Comments
+pub mod Insides
+pub mod Table
+pub mod Agreeing

@@ -1,0 +1,5 @@
+use Rattle.static_rules.proofs.FaultEquations.{step_is}
+use Rattle.static_rules.proofs.walk.Walk.step.Goals as goal
+
+pub returns : goal.returns
+returns g c = rw (step_is c.args.step.now) c.part.ensures

@@ -1,0 +1,92 @@
+// What the static rules make of a query.
+ghost use Rattle.std.specs.Prelude.{◌≡◌, IfOk, None};
+ghost use Rattle.query_terms.specs.Resolved.{resolved_query};
+ghost use Rattle.query_terms.specs.Static as spec;
+ghost use Rattle.query_terms.specs.Updating.{is_updating_query};
+ghost use Rattle.static_rules.specs.Checks.{Checks};
+
+use crate::fault::Found;
+use crate::prolog::note_prolog;
+use crate::state::State;
+use crate::updating::is_updating;
+use crate::walk::find;
+use name_resolver::resolve;
+use name_scopes::Environment;
+use query_terms::Query;
+use sqlite_items::Boxed;
+use std::alloc::Global;
+use tree_model::{NoMemory, Refusal};
+
+// How deep expressions may stand in one another. Those that are read from a text stand far less deep.
+const MAX_DEPTH: usize = 100_000;
+
+/// A query without a static fault. Its names have their URIs.
+#[derive(Drop)]
+pub struct Checked {
+    query: Query,
+    is_updating: bool,
+}
+
+impl Checked {
+    /// Whether the query is an updating expression (XQuery Update Facility 1.0, section 2.2), and not a simple one.
+    pub fn is_updating(&self) -> bool
+        ensures { result ≡ self.now.is_updating }
+    {
+        self.is_updating
+    }
+
+    /// The query. Each name in it has its URI, and where the name of a computed constructor or of a renaming is an
+    /// expression, the bindings in force stand beside it.
+    pub fn query(&self) -> &Query
+        ensures { result.now ≡ self.now.query }
+    {
+        &self.query
+    }
+}
+
+#[tactic(auto, unfolding(query_terms::specs::Static::query_faults))]
+fn first_fault(alloc: Global, query: &Query) -> Result<Found, NoMemory>
+    ensures { IfOk result (λ found. found ≡ spec.first_fault query.now) }
+{
+    let declarations = query.declarations.as_slice();
+    let mut state = State {
+        environment: Environment::outermost(alloc, declarations)?,
+        found: Found::none(),
+    };
+    note_prolog(&mut state.found, declarations);
+    find(alloc, MAX_DEPTH, &mut state, query.body.get())?;
+    Ok(state.found)
+}
+
+#[tactic(auto, unfolding(query_terms::specs::Resolved::resolved_query))]
+fn resolved(alloc: Global, query: Query) -> Result<Query, NoMemory>
+    ensures { IfOk result (λ q. q ≡ resolved_query query) }
+{
+    let Query { declarations, body } = query;
+    let body = resolve(alloc, declarations.as_slice(), body.get())?;
+    let body = Boxed::new(alloc, body)?;
+    Ok(Query { declarations, body })
+}
+
+/// The first static fault of a query (XQuery 1.0, section 2.2.3.1), or the query with the URIs of its names. Of several faults
+/// the first is the one whose term begins first in the text; where terms begin at one place, those of the prolog come before
+/// those of references to characters, of numbers, of prefixes, of variables and of calls, in this order.
+///
+/// Each pass over the query takes time linear in the number of its terms, where looking up a name walks over the bindings
+/// that are in force. `NoMemory` is also the answer where more than 100,000 expressions stand in one another.
+pub fn check(alloc: Global, query: Query) -> Result<Checked, Refusal>
+    ensures { Checks query result }
+{
+    let found = match first_fault(alloc, &query) {
+        Ok(found) => found,
+        Err(_) => return Err(Refusal::NoMemory),
+    };
+    if let Some(code) = found.code() {
+        return Err(Refusal::Code(code));
+    }
+    let is_updating = is_updating(query.body.get());
+    match resolved(alloc, query) {
+        Ok(query) => Ok(Checked { query, is_updating }),
+        Err(_) => Err(Refusal::NoMemory),
+    }
+}
