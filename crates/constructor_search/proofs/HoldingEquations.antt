@@ -14,7 +14,7 @@ use Rattle.query_terms.specs.declared.parts.Comparator.{Comparator}
 use Rattle.query_terms.specs.declared.parts.PathStart.{PathStart}
 use Rattle.query_terms.specs.declared.parts.Quantifier.{Quantifier}
 use Rattle.query_terms.specs.declared.parts.ComputedKind.{ComputedKind}
-use Rattle.query_terms.specs.declared.parts.LeafKind.{LeafKind}
+use Rattle.query_terms.specs.declared.parts.UnnamedKind.{UnnamedKind}
 use Rattle.query_terms.specs.declared.tree.Clause.TheOpen.{Clause-F, Expr-F}
 use Rattle.query_terms.specs.declared.tree.Clause.TheFolds.{fold-Attribute, fold-Content, fold_out-Operand, fold_out-OrderKey, fold_out-PathStep, fold-roll-Clause, fold-roll-Expr, map-Expr}
 use Rattle.query_terms.specs.declared.tree.Clause.TheViews.{out-Operand, out-OrderKey, out-PathStep, roll-Expr}
@@ -151,10 +151,10 @@ computed_is span kind name body = ap holds_constructor (sym (exprs.rolls-Compute
 pub computed_by_value_is : (span : Span) (kind : ComputedKind) (name : Expr) (scope : Scope) (body : Option Expr) → holds_constructor (exprs.ComputedByValue span kind name scope body) ≡ true
 computed_by_value_is span kind name scope body = ap holds_constructor (sym (exprs.rolls-ComputedByValue span kind name scope body)) ∙ holds_roll (Expr-F.ComputedByValue span kind name scope body)
 
-pub computed_leaf_is : (span : Span) (kind : LeafKind) (body : Expr) → holds_constructor (exprs.ComputedLeaf span kind body) ≡ true
-computed_leaf_is span kind body = ap holds_constructor (sym (exprs.rolls-ComputedLeaf span kind body)) ∙ holds_roll (Expr-F.ComputedLeaf span kind body)
+pub computed_unnamed_is : (span : Span) (kind : UnnamedKind) (body : Expr) → holds_constructor (exprs.ComputedUnnamed span kind body) ≡ true
+computed_unnamed_is span kind body = ap holds_constructor (sym (exprs.rolls-ComputedUnnamed span kind body)) ∙ holds_roll (Expr-F.ComputedUnnamed span kind body)
 
 pub call_is : (span : Span) (name : QName) (arguments : List Expr) → holds_constructor (exprs.Call span name arguments) ≡ some (map holds_constructor arguments)
 call_is span name arguments = ap holds_constructor (sym (exprs.rolls-Call span name arguments)) ∙ holds_roll (Expr-F.Call span name arguments)
 
-pub ruleset by_kind = (comma_is, flwor_is, quantified_is, if_is, insert_is, delete_is, replace_is, rename_is, or_is, and_is, comparison_is, range_is, additive_is, multiplicative_is, union_is, intersection_is, unary_is, root_is, path_is, filter_is, axis_step_is, number_is, string_is, variable_is, parenthesized_is, context_item_is, element_is, direct_comment_is, direct_instruction_is, computed_is, computed_by_value_is, computed_leaf_is, call_is)
+pub ruleset by_kind = (comma_is, flwor_is, quantified_is, if_is, insert_is, delete_is, replace_is, rename_is, or_is, and_is, comparison_is, range_is, additive_is, multiplicative_is, union_is, intersection_is, unary_is, root_is, path_is, filter_is, axis_step_is, number_is, string_is, variable_is, parenthesized_is, context_item_is, element_is, direct_comment_is, direct_instruction_is, computed_is, computed_by_value_is, computed_unnamed_is, call_is)

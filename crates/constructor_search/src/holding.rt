@@ -84,8 +84,8 @@ fn in_clause(clause: &Clause) -> bool
     ensures { result ≡ in_one_clause clause.now }
 {
     match clause {
-        Clause::For { source, .. } => holds_constructor(source),
-        Clause::Let { value, .. } => holds_constructor(value),
+        Clause::For { source, .. } => holds_constructor(source.get()),
+        Clause::Let { value, .. } => holds_constructor(value.get()),
     }
 }
 
@@ -94,7 +94,7 @@ fn in_clause(clause: &Clause) -> bool
 fn in_operand(operand: &Operand) -> bool
     ensures { result ≡ in_one_operand operand.now }
 {
-    holds_constructor(&operand.operand)
+    holds_constructor(operand.operand.get())
 }
 
 #[cycle(holding)]
@@ -102,7 +102,7 @@ fn in_operand(operand: &Operand) -> bool
 fn in_key(key: &OrderKey) -> bool
     ensures { result ≡ in_one_key key.now }
 {
-    holds_constructor(&key.key)
+    holds_constructor(key.key.get())
 }
 
 #[cycle(holding)]
@@ -110,7 +110,7 @@ fn in_key(key: &OrderKey) -> bool
 fn in_step(step: &PathStep) -> bool
     ensures { result ≡ in_one_step step.now }
 {
-    holds_constructor(&step.step)
+    holds_constructor(step.step.get())
 }
 
 /// Whether an element, attribute, text, comment, document or processing instruction is constructed anywhere in the
@@ -201,6 +201,6 @@ pub fn holds_constructor(e: &Expr) -> bool
         | Expr::DirectInstruction { .. }
         | Expr::Computed { .. }
         | Expr::ComputedByValue { .. }
-        | Expr::ComputedLeaf { .. } => true,
+        | Expr::ComputedUnnamed { .. } => true,
     }
 }

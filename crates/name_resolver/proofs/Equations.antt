@@ -15,10 +15,10 @@ use Rattle.query_terms.specs.declared.parts.Comparator.{Comparator}
 use Rattle.query_terms.specs.declared.parts.PathStart.{PathStart}
 use Rattle.query_terms.specs.declared.parts.Quantifier.{Quantifier}
 use Rattle.query_terms.specs.declared.parts.ComputedKind.{ComputedKind}
-use Rattle.query_terms.specs.declared.parts.LeafKind.{LeafKind}
+use Rattle.query_terms.specs.declared.parts.UnnamedKind.{UnnamedKind}
 use Rattle.query_terms.specs.declared.tree.Clause.TheOpen.{Clause-F, Content-F, Expr-F}
 use Rattle.query_terms.specs.declared.tree.Clause.TheFolds.{fold_out-Attribute, fold_out-Operand, fold_out-OrderKey, fold_out-PathStep, fold-roll-Clause, fold-roll-Content, fold-roll-Expr, map-Clause, map-Content, map-Expr}
-use Rattle.query_terms.specs.declared.tree.Clause.TheViews.{roll-Attribute, roll-Operand, roll-OrderKey, roll-PathStep, out-Attribute, out-Operand, out-OrderKey, out-PathStep, roll-Clause, roll-Content, roll-Expr}
+use Rattle.query_terms.specs.declared.tree.Clause.TheViews.{out-Content, roll-out-Content, roll-Attribute, roll-Operand, roll-OrderKey, roll-PathStep, out-Attribute, out-Operand, out-OrderKey, out-PathStep, roll-Clause, roll-Content, roll-Expr}
 use Rattle.query_terms.specs.declared.tree.Attribute.{Attribute}
 use Rattle.query_terms.specs.declared.tree.Clause.{Clause}
 use Rattle.query_terms.specs.declared.tree.Clause.TheVariants as clauses
@@ -34,7 +34,7 @@ use Rattle.name_resolver.specs.Gives.{Gives, element}
 use Rattle.std.specs.Prelude.{Result, Ok, Err}
 use Rattle.std.specs.declared.alloc.AllocError.{AllocError}
 use Rattle.query_terms.specs.Static.{Environment}
-use Rattle.name_scopes.specs.Declares.{declared_of, text_of}
+use Rattle.name_scopes.specs.Declares.{characters_in, declared_of, text_of}
 use Rattle.query_terms.specs.Resolved.{Resolution, ContentResolution, AttributeResolution, in_attribute, in_clause, in_content, in_expression, in_key, in_operand, in_step, resolved, clause, content, attribute, operand, key, step, each, perhaps, maybe_variable, resolved_variable, resolved_test, scope_of, each_content, bare_name, function_name, computed_name}
 
 resolved_roll : (x : Expr-F Clause Content Expr Attribute Operand OrderKey PathStep) → resolved (roll-Expr x) ≡ in_expression (map-Expr Clause Content Expr Attribute Operand OrderKey PathStep (Resolution Clause) ContentResolution (Resolution Expr) AttributeResolution (Resolution Operand) (Resolution OrderKey) (Resolution PathStep) clause content resolved attribute operand key step x)
@@ -143,8 +143,8 @@ pub computed_by_value_is : (span : Span) (kind : ComputedKind) (name : Expr) (sc
 computed_by_value_is span kind name scope None bindings = ap (λ (r : Resolution Expr). r bindings) (ap resolved (sym (exprs.rolls-ComputedByValue span kind name scope None)) ∙ resolved_roll (Expr-F.ComputedByValue span kind name scope None))
 computed_by_value_is span kind name scope (Some e) bindings = ap (λ (r : Resolution Expr). r bindings) (ap resolved (sym (exprs.rolls-ComputedByValue span kind name scope (Some e))) ∙ resolved_roll (Expr-F.ComputedByValue span kind name scope (Some e)))
 
-pub computed_leaf_is : (span : Span) (kind : LeafKind) (body : Expr) (bindings : List Binding) → resolved (exprs.ComputedLeaf span kind body) bindings ≡ exprs.ComputedLeaf span kind (resolved body bindings)
-computed_leaf_is span kind body bindings = ap (λ (r : Resolution Expr). r bindings) (ap resolved (sym (exprs.rolls-ComputedLeaf span kind body)) ∙ resolved_roll (Expr-F.ComputedLeaf span kind body))
+pub computed_unnamed_is : (span : Span) (kind : UnnamedKind) (body : Expr) (bindings : List Binding) → resolved (exprs.ComputedUnnamed span kind body) bindings ≡ exprs.ComputedUnnamed span kind (resolved body bindings)
+computed_unnamed_is span kind body bindings = ap (λ (r : Resolution Expr). r bindings) (ap resolved (sym (exprs.rolls-ComputedUnnamed span kind body)) ∙ resolved_roll (Expr-F.ComputedUnnamed span kind body))
 
 pub call_is : (span : Span) (name : QName) (arguments : List Expr) (bindings : List Binding) → resolved (exprs.Call span name arguments) bindings ≡ exprs.Call span (function_name bindings name) (each (map resolved arguments) bindings)
 call_is span name arguments bindings = ap (λ (r : Resolution Expr). r bindings) (ap resolved (sym (exprs.rolls-Call span name arguments)) ∙ resolved_roll (Expr-F.Call span name arguments))
@@ -158,20 +158,11 @@ let_is v value bindings = ap (λ (r : Resolution Clause). r bindings) (ap clause
 pub characters_is : (l : Literal) (bindings : List Binding) → (content (contents.Characters l)).resolved bindings ≡ contents.Characters l
 characters_is l bindings = ap (λ (c : ContentResolution). c.resolved bindings) (ap content (sym (contents.rolls-Characters l)) ∙ content_roll (Content-F.Characters l))
 
-characters_text_is : (l : Literal) → (content (contents.Characters l)).text ≡ l.text
-characters_text_is l = ap (λ (c : ContentResolution). c.text) (ap content (sym (contents.rolls-Characters l)) ∙ content_roll (Content-F.Characters l))
-
 pub enclosed_is : (body : Expr) (bindings : List Binding) → (content (contents.Enclosed body)).resolved bindings ≡ contents.Enclosed (resolved body bindings)
 enclosed_is body bindings = ap (λ (c : ContentResolution). c.resolved bindings) (ap content (sym (contents.rolls-Enclosed body)) ∙ content_roll (Content-F.Enclosed body))
 
-enclosed_text_is : (body : Expr) → (content (contents.Enclosed body)).text ≡ []
-enclosed_text_is body = ap (λ (c : ContentResolution). c.text) (ap content (sym (contents.rolls-Enclosed body)) ∙ content_roll (Content-F.Enclosed body))
-
 pub constructor_is : (body : Expr) (bindings : List Binding) → (content (contents.Constructor body)).resolved bindings ≡ contents.Constructor (resolved body bindings)
 constructor_is body bindings = ap (λ (c : ContentResolution). c.resolved bindings) (ap content (sym (contents.rolls-Constructor body)) ∙ content_roll (Content-F.Constructor body))
-
-constructor_text_is : (body : Expr) → (content (contents.Constructor body)).text ≡ []
-constructor_text_is body = ap (λ (c : ContentResolution). c.text) (ap content (sym (contents.rolls-Constructor body)) ∙ content_roll (Content-F.Constructor body))
 
 pub operand_is : (x : Operand) (bindings : List Binding) → operand x bindings ≡ roll-Operand (record { operator = (out-Operand x).operator; operand = resolved (out-Operand x).operand bindings })
 unfolding clause content resolved attribute operand key step
@@ -185,11 +176,17 @@ pub step_is : (x : PathStep) (bindings : List Binding) → step x bindings ≡ r
 unfolding clause content resolved attribute operand key step
 step_is x bindings = ap (λ (r : Resolution PathStep). r bindings) (fold_out-PathStep (Resolution Clause) ContentResolution (Resolution Expr) AttributeResolution (Resolution Operand) (Resolution OrderKey) (Resolution PathStep) in_clause in_content in_expression in_attribute in_operand in_key in_step x)
 
+text_by : (x : Content-F Clause Content Expr Attribute Operand OrderKey PathStep) → (in_content (map-Content Clause Content Expr Attribute Operand OrderKey PathStep (Resolution Clause) ContentResolution (Resolution Expr) AttributeResolution (Resolution Operand) (Resolution OrderKey) (Resolution PathStep) clause content resolved attribute operand key step x)).text ≡ characters_in x
+text_by (Content-F.Characters l) = refl
+text_by (Content-F.Enclosed body) = refl
+text_by (Content-F.Constructor body) = refl
+
+text_is : (c : Content) → (content c).text ≡ text_of c
+text_is c = ap (λ (m : ContentResolution). m.text) (ap content (sym (roll-out-Content c)) ∙ content_roll (out-Content c)) ∙ text_by (out-Content c)
+
 text_same : (xs : List Content) → map (λ (c : ContentResolution). c.text) (map content xs) ≡ map text_of xs
 text_same [] = refl
-text_same (contents.Characters l ∷ xs) = rw (characters_text_is l) (ap (λ z. l.text ∷ z) (text_same xs))
-text_same (contents.Enclosed e ∷ xs) = rw (enclosed_text_is e) (ap (λ z. [] ∷ z) (text_same xs))
-text_same (contents.Constructor e ∷ xs) = rw (constructor_text_is e) (ap (λ z. [] ∷ z) (text_same xs))
+text_same (c ∷ xs) = rw (text_is c) (ap (λ z. text_of c ∷ z) (text_same xs))
 
 attribute_declared_is : (a : Attribute) → (attribute a).declared ≡ declared_by (out-Attribute a).name.name (out-Attribute a).written (map (λ (c : ContentResolution). c.text) (map content (out-Attribute a).value))
 unfolding clause content resolved attribute operand key step
@@ -215,6 +212,6 @@ pub gives_along : {A : Type 0} (part same : Resolution A) (x : Result A AllocErr
 gives_along part same (Ok x) old new is given = (given.0 ∙ sym (is old.bindings), given.1)
 gives_along part same (Err e) old new is given = tt
 
-pub ruleset by_kind = (comma_is, flwor_is, quantified_is, if_is, insert_is, delete_is, replace_is, rename_is, or_is, and_is, comparison_is, range_is, additive_is, multiplicative_is, union_is, intersection_is, unary_is, root_is, path_is, filter_is, axis_step_is, number_is, string_is, variable_is, parenthesized_is, context_item_is, element_is, direct_comment_is, direct_instruction_is, computed_is, computed_by_value_is, computed_leaf_is, call_is)
+pub ruleset by_kind = (comma_is, flwor_is, quantified_is, if_is, insert_is, delete_is, replace_is, rename_is, or_is, and_is, comparison_is, range_is, additive_is, multiplicative_is, union_is, intersection_is, unary_is, root_is, path_is, filter_is, axis_step_is, number_is, string_is, variable_is, parenthesized_is, context_item_is, element_is, direct_comment_is, direct_instruction_is, computed_is, computed_by_value_is, computed_unnamed_is, call_is)
 
 pub ruleset by_part = (for_is, let_is, characters_is, enclosed_is, constructor_is, operand_is, key_is, step_is, attribute_is)

@@ -10,17 +10,14 @@ use crate::names::{
     bare_name, computed_name, element_name, function_name, literal, maybe_text, maybe_variable,
     scope, test, variable,
 };
-use name_scopes::{Environment, declare_all};
+use name_scopes::{Environment, MAX_DEPTH, declare_all};
 use query_terms::{
-    Attribute, Clause, Comparator, ComputedKind, Content, Declaration, Expr, LeafKind, Operand,
+    Attribute, Clause, Comparator, ComputedKind, Content, Declaration, Expr, UnnamedKind, Operand,
     OrderKey, PathStart, PathStep, Place, QName, Quantifier, Span,
 };
 use sqlite_items::{Boxed, Items};
 use std::alloc::{AllocError, Global};
 use tree_model::NoMemory;
-
-// How deep expressions may stand in one another.
-const MAX_DEPTH: usize = 100_000;
 
 #[derive(Clone, Copy)]
 pub(crate) struct Resolver<F> {
@@ -67,7 +64,7 @@ impl<F: Fn(Global, usize, &mut Environment, &Expr) -> Result<Expr, NoMemory>> Re
     {
         Ok(Operand {
             operator: operand.operator,
-            operand: self.part(environment, &operand.operand)?,
+            operand: self.boxed(environment, operand.operand.get())?,
         })
     }
 
@@ -78,7 +75,7 @@ impl<F: Fn(Global, usize, &mut Environment, &Expr) -> Result<Expr, NoMemory>> Re
     {
         Ok(PathStep {
             is_deep: step.is_deep,
-            step: self.part(environment, &step.step)?,
+            step: self.boxed(environment, step.step.get())?,
         })
     }
 
@@ -88,7 +85,7 @@ impl<F: Fn(Global, usize, &mut Environment, &Expr) -> Result<Expr, NoMemory>> Re
         ensures { Gives (spec.key key.now) result environment.old environment.new }
     {
         Ok(OrderKey {
-            key: self.part(environment, &key.key)?,
+            key: self.boxed(environment, key.key.get())?,
             is_descending: key.is_descending,
             is_empty_greatest: key.is_empty_greatest,
         })
@@ -107,14 +104,14 @@ impl<F: Fn(Global, usize, &mut Environment, &Expr) -> Result<Expr, NoMemory>> Re
             } => Ok(Clause::For {
                 variable: variable(self.alloc, environment, bound)?,
                 position: maybe_variable(self.alloc, environment, position)?,
-                source: self.part(environment, source)?,
+                source: self.boxed(environment, source.get())?,
             }),
             Clause::Let {
                 variable: bound,
                 value,
             } => Ok(Clause::Let {
                 variable: variable(self.alloc, environment, bound)?,
-                value: self.part(environment, value)?,
+                value: self.boxed(environment, value.get())?,
             }),
         }
     }
@@ -126,8 +123,8 @@ impl<F: Fn(Global, usize, &mut Environment, &Expr) -> Result<Expr, NoMemory>> Re
     {
         match content {
             Content::Characters(characters) => Ok(Content::Characters(literal(characters)?)),
-            Content::Enclosed(body) => Ok(Content::Enclosed(self.part(environment, body)?)),
-            Content::Constructor(body) => Ok(Content::Constructor(self.part(environment, body)?)),
+            Content::Enclosed(body) => Ok(Content::Enclosed(self.boxed(environment, body.get())?)),
+            Content::Constructor(body) => Ok(Content::Constructor(self.boxed(environment, body.get())?)),
         }
     }
 
@@ -697,18 +694,18 @@ impl<F: Fn(Global, usize, &mut Environment, &Expr) -> Result<Expr, NoMemory>> Re
         })
     }
 
-    fn computed_leaf(
+    fn computed_unnamed(
         &self,
         environment: &mut Environment,
         span: Span,
-        kind: LeafKind,
+        kind: UnnamedKind,
         body: &Expr,
     ) -> Result<Expr, NoMemory>
         requires { Resolves self.now.depth (F.pre self.now.resolve) (F.post self.now.resolve) }
-        ensures { Gives (λ b. Expr.ComputedLeaf span kind (spec.resolved body.now b)) result environment.old environment.new }
+        ensures { Gives (λ b. Expr.ComputedUnnamed span kind (spec.resolved body.now b)) result environment.old environment.new }
     {
         let body = self.boxed(environment, body)?;
-        Ok(Expr::ComputedLeaf { span, kind, body })
+        Ok(Expr::ComputedUnnamed { span, kind, body })
     }
 
     fn call(
@@ -906,7 +903,7 @@ impl<F: Fn(Global, usize, &mut Environment, &Expr) -> Result<Expr, NoMemory>> Re
                 body,
                 ..
             } => self.computed_by_value(environment, *span, *kind, name.get(), body),
-            Expr::ComputedLeaf { span, kind, body } => self.computed_leaf(
+            Expr::ComputedUnnamed { span, kind, body } => self.computed_unnamed(
                 environment,
                 *span,
                 *kind,

@@ -10,6 +10,7 @@ use query_terms::{Attribute, Binding, Content};
 use std::alloc::Global;
 use tree_model::{Name, NoMemory, Text};
 
+/// Whether an attribute of this name declares a namespace (XQuery 1.0, section 3.7.1.2).
 #[tactic(auto, unfolding(query_terms::specs::Static::is_declaration))]
 pub fn is_declaration(name: &Name) -> bool
     ensures { result ≡ spec.is_declaration name.now }
@@ -79,7 +80,8 @@ fn declare(
     }
 }
 
-// Brings the declarations of an element into force, the first last.
+/// Brings the namespaces that the attributes of an element declare into force. Of two declarations of one prefix the first
+/// counts, so they are brought in from the last.
 pub fn declare_all(
     alloc: Global,
     environment: &mut Environment,

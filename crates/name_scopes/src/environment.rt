@@ -18,6 +18,10 @@ pub const XMLNS_URI: &str = "http://www.w3.org/2000/xmlns/";
 /// The URI of functions whose names have no prefix.
 pub const FUNCTIONS_URI: &str = "http://www.w3.org/2005/xpath-functions";
 
+/// How deep expressions may stand in one another where a query is walked over. Those that are read from a text stand far less
+/// deep.
+pub const MAX_DEPTH: usize = 100_000;
+
 const SCHEMA_URI: &str = "http://www.w3.org/2001/XMLSchema";
 
 const INSTANCE_URI: &str = "http://www.w3.org/2001/XMLSchema-instance";

@@ -5,4 +5,4 @@ mod declared;
 mod environment;
 
 pub use declared::{declare_all, is_declaration};
-pub use environment::{Environment, FUNCTIONS_URI, XML_URI, XMLNS_URI};
+pub use environment::{Environment, FUNCTIONS_URI, MAX_DEPTH, XML_URI, XMLNS_URI};

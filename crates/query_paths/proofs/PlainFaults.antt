@@ -123,7 +123,7 @@ rolled_step (Expr-F.DirectComment span text) s env e = absurd (cc)
 rolled_step (Expr-F.DirectInstruction span target text) s env e = absurd (cc)
 rolled_step (Expr-F.Computed span kind name body) s env e = absurd (cc)
 rolled_step (Expr-F.ComputedByValue span kind name scope body) s env e = absurd (cc)
-rolled_step (Expr-F.ComputedLeaf span kind body) s env e = absurd (cc)
+rolled_step (Expr-F.ComputedUnnamed span kind body) s env e = absurd (cc)
 rolled_step (Expr-F.Call span name arguments) s env e = absurd (cc)
 
 pub step_references : (e : Expr) (s : AxisStep) (env : Environment) → step_of e ≡ Some s → AreReferences (faults e env)
@@ -197,7 +197,7 @@ rolled_path (Expr-F.DirectComment span text) steps env e = alone (roll-Expr (Exp
 rolled_path (Expr-F.DirectInstruction span target text) steps env e = alone (roll-Expr (Expr-F.DirectInstruction span target text)) steps env e
 rolled_path (Expr-F.Computed span kind name body) steps env e = alone (roll-Expr (Expr-F.Computed span kind name body)) steps env e
 rolled_path (Expr-F.ComputedByValue span kind name scope body) steps env e = alone (roll-Expr (Expr-F.ComputedByValue span kind name scope body)) steps env e
-rolled_path (Expr-F.ComputedLeaf span kind body) steps env e = alone (roll-Expr (Expr-F.ComputedLeaf span kind body)) steps env e
+rolled_path (Expr-F.ComputedUnnamed span kind body) steps env e = alone (roll-Expr (Expr-F.ComputedUnnamed span kind body)) steps env e
 rolled_path (Expr-F.Call span name arguments) steps env e = alone (roll-Expr (Expr-F.Call span name arguments)) steps env e
 
 pub path_references : (e : Expr) (steps : List AxisStep) (env : Environment) → steps_of e ≡ Some steps → AreReferences (faults e env)

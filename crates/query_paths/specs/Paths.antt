@@ -1,5 +1,5 @@
 -- Queries that are paths of axis steps (XQuery 1.0, section 3.2), as the steps from the documents.
-use Rattle.std.specs.Prelude.{ℕ, Bool, true, false, if◌then◌else◌, List, [], ◌∷◌, ◌++◌, option_map, Option, Some, None}
+use Rattle.std.specs.Prelude.{Bool, true, false, if◌then◌else◌, List, [], ◌∷◌, ◌++◌, option_map, Option, Some, None}
 use Rattle.std.specs.List.{fold}
 use Rattle.tree_model.specs.Sound.{is_empty}
 use Rattle.tree_model.specs.declared.axis.Axis.TheVariants as axes
@@ -23,9 +23,7 @@ use Rattle.query_terms.specs.declared.tree.OrderKey.{OrderKey}
 use Rattle.query_terms.specs.declared.tree.PathStep.{PathStep, out-PathStep}
 use Rattle.query_terms.specs.declared.tree.Declaration.{Declaration}
 use Rattle.query_terms.specs.declared.tree.Query.{Query}
-
-abbrev pub Text : Type 0
-Text = List ℕ
+use Rattle.query_terms.specs.Rule.{Text}
 
 -- ---- steps
 

@@ -147,7 +147,7 @@ fn behind(
 ) -> Result<Option<Vec<AxisStep>>, NoMemory>
     ensures { IfOk result (λ steps. option_map (λ v. v.items) steps ≡ spec.behind (Some found.items) step.now) }
 {
-    with_step(alloc, step.is_deep, found, &step.step)
+    with_step(alloc, step.is_deep, found, step.step.get())
 }
 
 // The steps with all the others behind them.

@@ -4,8 +4,13 @@ use Rattle.std.specs.List.{list_any}
 use Rattle.query_terms.specs.declared.tree.Clause.TheOpen.{Attribute-F, Clause-F, Content-F, Expr-F, Operand-F, OrderKey-F, PathStep-F}
 use Rattle.query_terms.specs.declared.tree.Clause.TheFolds.{fold-Expr}
 use Rattle.query_terms.specs.declared.tree.Expr.{Expr}
+use Rattle.query_terms.specs.declared.tree.Clause.TheViews.{out-Content}
+use Rattle.query_terms.specs.declared.tree.Clause.{Clause}
 use Rattle.query_terms.specs.declared.tree.Content.{Content}
-use Rattle.query_terms.specs.declared.tree.Content.TheVariants as contents
+use Rattle.query_terms.specs.declared.tree.Attribute.{Attribute}
+use Rattle.query_terms.specs.declared.tree.Operand.{Operand}
+use Rattle.query_terms.specs.declared.tree.OrderKey.{OrderKey}
+use Rattle.query_terms.specs.declared.tree.PathStep.{PathStep}
 
 -- ---- one level: whether a part holds one
 
@@ -51,7 +56,7 @@ in_expression (Expr-F.DirectComment span text) = true
 in_expression (Expr-F.DirectInstruction span target text) = true
 in_expression (Expr-F.Computed span kind name body) = true
 in_expression (Expr-F.ComputedByValue span kind name scope body) = true
-in_expression (Expr-F.ComputedLeaf span kind body) = true
+in_expression (Expr-F.ComputedUnnamed span kind body) = true
 in_expression (Expr-F.Call span name arguments) = some arguments
 
 abbrev pub in_clause : Clause-F Bool Bool Bool Bool Bool Bool Bool → Bool
@@ -81,7 +86,11 @@ in_step s = s.step
 unfoldable pub holds_constructor : Expr → Bool
 holds_constructor = fold-Expr Bool Bool Bool Bool Bool Bool Bool in_clause in_content in_expression in_attribute in_operand in_key in_step
 
+-- by what a part of content is made of
+abbrev pub encloses : Content-F Clause Content Expr Attribute Operand OrderKey PathStep → Bool
+encloses (Content-F.Characters literal) = false
+encloses (Content-F.Enclosed body) = holds_constructor body
+encloses (Content-F.Constructor body) = true
+
 abbrev pub encloses_constructor : Content → Bool
-encloses_constructor (contents.Characters literal) = false
-encloses_constructor (contents.Enclosed body) = holds_constructor body
-encloses_constructor (contents.Constructor body) = true
+encloses_constructor c = encloses (out-Content c)

@@ -9,15 +9,21 @@ use Rattle.query_terms.specs.declared.parts.QName.{QName}
 use Rattle.query_terms.specs.declared.parts.Scope.{Scope}
 use Rattle.query_terms.specs.declared.parts.ComputedKind.{ComputedKind}
 use Rattle.query_terms.specs.declared.parts.ComputedKind.TheVariants as kinds
-use Rattle.query_terms.specs.declared.parts.LeafKind.{LeafKind}
-use Rattle.query_terms.specs.declared.parts.LeafKind.TheVariants as leaves
+use Rattle.query_terms.specs.declared.parts.UnnamedKind.{UnnamedKind}
+use Rattle.query_terms.specs.declared.parts.UnnamedKind.TheVariants as unnamed
+use Rattle.query_terms.specs.declared.tree.Clause.TheOpen.{Content-F}
+use Rattle.query_terms.specs.declared.tree.Clause.TheViews.{out-Content}
+use Rattle.query_terms.specs.declared.tree.Clause.{Clause}
+use Rattle.query_terms.specs.declared.tree.Operand.{Operand}
+use Rattle.query_terms.specs.declared.tree.OrderKey.{OrderKey}
+use Rattle.query_terms.specs.declared.tree.PathStep.{PathStep}
 use Rattle.query_terms.specs.declared.tree.Expr.{Expr}
 use Rattle.query_terms.specs.declared.tree.Expr.TheVariants as exprs
 use Rattle.query_terms.specs.declared.tree.Attribute.{Attribute, roll-Attribute}
 use Rattle.query_terms.specs.declared.tree.Content.{Content}
 use Rattle.query_terms.specs.declared.tree.Content.TheVariants as parts
 use Rattle.query_terms.specs.Constructors.{encloses_constructor}
-use Rattle.query_terms.specs.Rule.{Text, Value, absent, both, more, code, chunk, text, name, computed_kind, leaf_kind, term, attribute, attributes, content, contents, Rule, word, char, many, opt, not, node, read, when, ◌~◌, ◌//◌}
+use Rattle.query_terms.specs.Rule.{Text, Value, absent, both, more, code, chunk, text, name, computed_kind, unnamed_kind, term, attribute, attributes, content, contents, Rule, word, char, many, opt, not, node, read, when, ◌~◌, ◌//◌}
 use Rattle.query_terms.specs.Lexis.{left, right, text_of, code_of, items_of, is_present, name_of, between, giving, single, elem, white_space, no_space, blanks, keyword, ncname, qname, a_name, reference, line_end, doubled_quote, spelled, first_of}
 
 -- ---- parts of values
@@ -46,9 +52,9 @@ abbrev pub kind_of : Value → ComputedKind
 kind_of (computed_kind k) = k
 kind_of _ = kinds.Element
 
-abbrev pub leaf_of : Value → LeafKind
-leaf_of (leaf_kind k) = k
-leaf_of _ = leaves.Text
+abbrev pub unnamed_of : Value → UnnamedKind
+unnamed_of (unnamed_kind k) = k
+unnamed_of _ = unnamed.Text
 
 abbrev pub maybe_text : Value → Option Text
 maybe_text (text t) = Some t
@@ -181,9 +187,13 @@ quoted_plain quote = reference // quoted_space // char (in_quoted quote)
 unfoldable pub quoted_piece : ℕ → Rule
 quoted_piece quote = node a_solid (quoted_escape quote) // enclosed_content // node a_solid (quoted_plain quote)
 
+-- by what a part of content is made of
+abbrev pub is_expression : Content-F Clause Content Expr Attribute Operand OrderKey PathStep → Bool
+is_expression (Content-F.Enclosed body) = true
+is_expression _ = false
+
 abbrev pub is_enclosed : Content → Bool
-is_enclosed (parts.Enclosed body) = true
-is_enclosed _ = false
+is_enclosed c = is_expression (out-Content c)
 
 -- the parts of a value and, where an expression is enclosed among them, the text that they are written as
 abbrev pub a_quoted : Text → List Content → Value
@@ -266,12 +276,12 @@ end_tag = word (codes "</") ~ qname ~ no_space ~ word (codes ">")
 unfoldable pub behind_attributes : Rule
 behind_attributes = giving absent (word (codes "/>")) // word (codes ">") ~ contents_rule ~ end_tag
 
-abbrev pub is_same_name : QName → QName → Bool
-is_same_name a b = bytes_eq a.name.prefix b.name.prefix && bytes_eq a.name.local b.name.local
+abbrev pub is_written_alike : QName → QName → Bool
+is_written_alike a b = bytes_eq a.name.prefix b.name.prefix && bytes_eq a.name.local b.name.local
 
 -- of the start tag's name, the attributes, and the content with the end tag's name where there is one
 abbrev pub has_same_tags : Value → Bool
-has_same_tags v = if is_present (right (right v)) then is_same_name (name_of (left v)) (name_of (right (right (right v)))) else true
+has_same_tags v = if is_present (right (right v)) then is_written_alike (name_of (left v)) (name_of (right (right (right v)))) else true
 
 abbrev pub an_element : ℕ → ℕ → Value → Value
 an_element from to v = term (exprs.Element (between from to) (name_of (left v)) (attributes_of (left (right v))) (contents_of (left (right (right v)))))
@@ -315,14 +325,14 @@ a_computed_instruction from to v = computed_as (between from to) kinds.Instructi
 unfoldable pub computed_instruction : Rule
 computed_instruction = node a_computed_instruction (keyword (codes "processing-instruction") ~ instruction_name ~ blanks ~ computed_body)
 
-unfoldable pub leaf_rule : Rule
-leaf_rule = giving (leaf_kind leaves.Text) (keyword (codes "text")) // giving (leaf_kind leaves.Comment) (keyword (codes "comment")) // giving (leaf_kind leaves.Document) (keyword (codes "document"))
+unfoldable pub unnamed_kind_rule : Rule
+unnamed_kind_rule = giving (unnamed_kind unnamed.Text) (keyword (codes "text")) // giving (unnamed_kind unnamed.Comment) (keyword (codes "comment")) // giving (unnamed_kind unnamed.Document) (keyword (codes "document"))
 
-abbrev pub a_leaf : ℕ → ℕ → Value → Value
-a_leaf from to v = term (exprs.ComputedLeaf (between from to) (leaf_of (left v)) (term_of (right v)))
+abbrev pub an_unnamed : ℕ → ℕ → Value → Value
+an_unnamed from to v = term (exprs.ComputedUnnamed (between from to) (unnamed_of (left v)) (term_of (right v)))
 
-unfoldable pub computed_leaf : Rule
-computed_leaf = node a_leaf (leaf_rule ~ enclosed)
+unfoldable pub computed_unnamed : Rule
+computed_unnamed = node an_unnamed (unnamed_kind_rule ~ enclosed)
 
 unfoldable pub computed : Rule
-computed = computed_named // computed_instruction // computed_leaf
+computed = computed_named // computed_instruction // computed_unnamed

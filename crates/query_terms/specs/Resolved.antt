@@ -144,7 +144,7 @@ in_expression (Expr-F.DirectComment span text) b = exprs.DirectComment span text
 in_expression (Expr-F.DirectInstruction span target text) b = exprs.DirectInstruction span target text
 in_expression (Expr-F.Computed span kind name body) b = exprs.Computed span kind (computed_name kind b name) (perhaps body b)
 in_expression (Expr-F.ComputedByValue span kind name scope body) b = exprs.ComputedByValue span kind (name b) (scope_of b) (perhaps body b)
-in_expression (Expr-F.ComputedLeaf span kind body) b = exprs.ComputedLeaf span kind (body b)
+in_expression (Expr-F.ComputedUnnamed span kind body) b = exprs.ComputedUnnamed span kind (body b)
 in_expression (Expr-F.Call span name arguments) b = exprs.Call span (function_name b name) (each arguments b)
 
 abbrev pub in_clause : Clause-F (Resolution Clause) ContentResolution (Resolution Expr) AttributeResolution (Resolution Operand) (Resolution OrderKey) (Resolution PathStep) → Resolution Clause

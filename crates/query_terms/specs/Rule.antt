@@ -16,7 +16,7 @@ use Rattle.query_terms.specs.declared.parts.Comparator.{Comparator}
 use Rattle.query_terms.specs.declared.parts.Operator.{Operator}
 use Rattle.query_terms.specs.declared.parts.Quantifier.{Quantifier}
 use Rattle.query_terms.specs.declared.parts.ComputedKind.{ComputedKind}
-use Rattle.query_terms.specs.declared.parts.LeafKind.{LeafKind}
+use Rattle.query_terms.specs.declared.parts.UnnamedKind.{UnnamedKind}
 use Rattle.query_terms.specs.declared.tree.Declaration.{Declaration}
 use Rattle.query_terms.specs.declared.tree.Expr.{Expr}
 use Rattle.query_terms.specs.declared.tree.Operand.{Operand}
@@ -53,7 +53,7 @@ pub data Value : Type 0 where
   operator : Operator → Value
   quantifier : Quantifier → Value
   computed_kind : ComputedKind → Value
-  leaf_kind : LeafKind → Value
+  unnamed_kind : UnnamedKind → Value
   term : Expr → Value
   terms : List Expr → Value
   operand : Operand → Value

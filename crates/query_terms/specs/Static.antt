@@ -337,7 +337,7 @@ in_expression (Expr-F.DirectComment span text) = nothing
 in_expression (Expr-F.DirectInstruction span target text) = nothing
 in_expression (Expr-F.Computed span kind name body) = computed name body
 in_expression (Expr-F.ComputedByValue span kind name scope body) = computed_by_value name body
-in_expression (Expr-F.ComputedLeaf span kind body) = body
+in_expression (Expr-F.ComputedUnnamed span kind body) = body
 in_expression (Expr-F.Call span name arguments) = call name arguments
 
 -- a source is valued before its variables are bound

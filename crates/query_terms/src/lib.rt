@@ -6,7 +6,7 @@ mod stop;
 mod tree;
 
 pub use parts::{
-    Binding, Comparator, ComputedKind, LeafKind, Literal, NodeTest, Operator, PathStart, Place,
+    Binding, Comparator, ComputedKind, UnnamedKind, Literal, NodeTest, Operator, PathStart, Place,
     QName, Quantifier, Scope, Span, Variable,
 };
 pub use stop::{Nest, Stop, SyntaxFault};

@@ -132,7 +132,7 @@ pub enum ComputedKind {
 
 /// What a computed constructor without a name makes (XQuery 1.0, section 3.7.3).
 #[derive(Clone, Copy, Debug, PartialEq, Eq)]
-pub enum LeafKind {
+pub enum UnnamedKind {
     Text,
     Comment,
     Document,

@@ -1,7 +1,7 @@
 // The tree of a query: one variant for each production that stands for itself.
 
 use crate::parts::{
-    Comparator, ComputedKind, LeafKind, Literal, NodeTest, Operator, PathStart, Place, QName,
+    Comparator, ComputedKind, UnnamedKind, Literal, NodeTest, Operator, PathStart, Place, QName,
     Quantifier, Scope, Span, Variable,
 };
 use sqlite_items::{Boxed, Items};
@@ -200,9 +200,9 @@ pub enum Expr {
         scope: Scope,
         body: Option<Boxed<Expr>>,
     },
-    ComputedLeaf {
+    ComputedUnnamed {
         span: Span,
-        kind: LeafKind,
+        kind: UnnamedKind,
         body: Boxed<Expr>,
     },
     Call {
@@ -217,7 +217,7 @@ pub enum Expr {
 #[derive(Drop)]
 pub struct Operand {
     pub operator: Operator,
-    pub operand: Expr,
+    pub operand: Boxed<Expr>,
 }
 
 /// A step behind another, with `//` between them where it is deep, and else `/`.
@@ -225,7 +225,7 @@ pub struct Operand {
 #[derive(Drop)]
 pub struct PathStep {
     pub is_deep: bool,
-    pub step: Expr,
+    pub step: Boxed<Expr>,
 }
 
 /// What binds variables: `for` with a variable for the place, or `let` (XQuery 1.0, section 3.8.1).
@@ -235,11 +235,11 @@ pub enum Clause {
     For {
         variable: Variable,
         position: Option<Variable>,
-        source: Expr,
+        source: Boxed<Expr>,
     },
     Let {
         variable: Variable,
-        value: Expr,
+        value: Boxed<Expr>,
     },
 }
 
@@ -247,7 +247,7 @@ pub enum Clause {
 #[cycle(ast)]
 #[derive(Drop)]
 pub struct OrderKey {
-    pub key: Expr,
+    pub key: Boxed<Expr>,
     pub is_descending: bool,
     pub is_empty_greatest: bool,
 }
@@ -269,6 +269,6 @@ pub struct Attribute {
 #[derive(Drop)]
 pub enum Content {
     Characters(Literal),
-    Enclosed(Expr),
-    Constructor(Expr),
+    Enclosed(Boxed<Expr>),
+    Constructor(Boxed<Expr>),
 }

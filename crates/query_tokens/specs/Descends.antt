@@ -31,11 +31,6 @@ Tried r (Ok (Some x)) = r ≡ Ok x
 Tried r (Ok None) = r ≡ Err Refused
 Tried r (Err e) = (r ≡ Err e) × (e ≢ NoMemory → e ≡ TooDeep)
 
--- no answer as a refusal
-abbrev pub required_of : {T : Type 0} → Option T → Result T Stop
-required_of (Some x) = Ok x
-required_of None = Err Refused
-
 -- a function that reads each nest at a source as its rule says
 pub record Nests (source : Source) (pre : Global → Source → Nest → Bor Text → Type 0) (post : Global → Source → Nest → Bor Text → Result (Expr × Bor Text) Stop → Type 0) : Type 0 where
   pub callable : (alloc : Global) (nest : Nest) (s : Bor Text) → pre alloc source nest s

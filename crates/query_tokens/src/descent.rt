@@ -4,7 +4,7 @@ ghost use Rattle.query_terms.specs.Rule.{nothing, term, word, many};
 ghost use Rattle.query_terms.specs.Lexis as lexis;
 ghost use Rattle.query_terms.specs.Markup as spec;
 ghost use Rattle.query_tokens.specs.Reads.{at};
-ghost use Rattle.query_tokens.specs.Descends.{required_of, Nests, Opens, Skips, Gathers, Tried};
+ghost use Rattle.query_tokens.specs.Descends.{Nests, Opens, Skips, Gathers, Tried};
 
 use crate::source::Source;
 use query_terms::{Expr, Nest, Span, Stop};
@@ -21,16 +21,6 @@ pub fn tried<T>(outcome: Result<T, Stop>) -> Result<Option<T>, Stop>
         Err(Stop::Refused) => Ok(None),
         Err(Stop::TooDeep) => Err(Stop::TooDeep),
         Err(Stop::NoMemory) => Err(Stop::NoMemory),
-    }
-}
-
-/// What was read, or a refusal where there is nothing.
-pub fn required<T>(found: Option<T>) -> Result<T, Stop>
-    ensures { result ≡ required_of found }
-{
-    match found {
-        Some(found) => Ok(found),
-        None => Err(Stop::Refused),
     }
 }
 
@@ -59,7 +49,7 @@ fn comma(
 pub struct Descent<'a, F> {
     pub alloc: Global,
     pub source: Source<'a>,
-    pub open: F,
+    pub nested: F,
 }
 
 impl<'a, F: Fn(Global, Source<'a>, Nest, &'a str) -> Result<(Boxed<Expr>, &'a str), Stop>> Descent<
@@ -68,32 +58,32 @@ impl<'a, F: Fn(Global, Source<'a>, Nest, &'a str) -> Result<(Boxed<Expr>, &'a st
 > {
     /// An expression without a comma.
     pub fn single(&self, rest: &'a str) -> Result<(Boxed<Expr>, &'a str), Stop>
-        requires { Nests self.now.source (F.pre self.now.open) (F.post self.now.open) }
+        requires { Nests self.now.source (F.pre self.now.nested) (F.post self.now.nested) }
         ensures { Opens term (at self.now.source lexis.single rest.now) result }
     {
-        (self.open)(self.alloc, self.source, Nest::Single, rest)
+        (self.nested)(self.alloc, self.source, Nest::Single, rest)
     }
 
     /// A direct element with its content.
     pub fn elem(&self, rest: &'a str) -> Result<(Boxed<Expr>, &'a str), Stop>
-        requires { Nests self.now.source (F.pre self.now.open) (F.post self.now.open) }
+        requires { Nests self.now.source (F.pre self.now.nested) (F.post self.now.nested) }
         ensures { Opens term (at self.now.source lexis.elem rest.now) result }
     {
-        (self.open)(self.alloc, self.source, Nest::Elem, rest)
+        (self.nested)(self.alloc, self.source, Nest::Elem, rest)
     }
 
     /// A word, whatever stands behind it.
     pub fn word(&self, rest: &'a str, text: &str) -> Result<&'a str, Stop>
         ensures { Skips (at self.now.source (word text.now) rest.now) result }
     {
-        required(self.source.word(rest, text))
+        self.source.word(rest, text).ok_or(Stop::Refused)
     }
 
     /// A word that no name goes on with, and the blanks behind it.
     pub fn keyword(&self, rest: &'a str, text: &str) -> Result<&'a str, Stop>
         ensures { Skips (at self.now.source (lexis.keyword text.now) rest.now) result }
     {
-        required(self.source.keyword(rest, text))
+        self.source.keyword(rest, text).ok_or(Stop::Refused)
     }
 
     /// White space and comments, or nothing.
@@ -105,7 +95,7 @@ impl<'a, F: Fn(Global, Source<'a>, Nest, &'a str) -> Result<(Boxed<Expr>, &'a st
 
     #[tactic(auto, unfolding(query_terms::specs::Markup::next_single))]
     fn next_single(&self, rest: &'a str) -> Result<(Boxed<Expr>, &'a str), Stop>
-        requires { Nests self.now.source (F.pre self.now.open) (F.post self.now.open) }
+        requires { Nests self.now.source (F.pre self.now.nested) (F.post self.now.nested) }
         ensures { Opens term (at self.now.source spec.next_single rest.now) result }
     {
         let after = self.blanks(rest);
@@ -116,7 +106,7 @@ impl<'a, F: Fn(Global, Source<'a>, Nest, &'a str) -> Result<(Boxed<Expr>, &'a st
 
     /// The expressions behind commas.
     pub fn more_singles(&self, rest: &'a str) -> Result<(Items<Expr>, &'a str), Stop>
-        requires { Nests self.now.source (F.pre self.now.open) (F.post self.now.open) }
+        requires { Nests self.now.source (F.pre self.now.nested) (F.post self.now.nested) }
         ensures { Gathers spec.terms_in (at self.now.source (many spec.next_single) rest.now) result }
     {
         let mut found = Items::new(self.alloc);
@@ -138,7 +128,7 @@ impl<'a, F: Fn(Global, Source<'a>, Nest, &'a str) -> Result<(Boxed<Expr>, &'a st
     /// An expression: one or more, with commas between them (XQuery 1.0, section 3.3.1).
     #[tactic(auto, unfolding(query_terms::specs::Markup::expr))]
     pub fn expr(&self, rest: &'a str) -> Result<(Boxed<Expr>, &'a str), Stop>
-        requires { Nests self.now.source (F.pre self.now.open) (F.post self.now.open) }
+        requires { Nests self.now.source (F.pre self.now.nested) (F.post self.now.nested) }
         ensures { Opens term (at self.now.source spec.expr rest.now) result }
     {
         let (first, after) = self.single(rest)?;
@@ -150,7 +140,7 @@ impl<'a, F: Fn(Global, Source<'a>, Nest, &'a str) -> Result<(Boxed<Expr>, &'a st
     /// An expression in braces.
     #[tactic(auto, unfolding(query_terms::specs::Markup::enclosed))]
     pub fn enclosed(&self, rest: &'a str) -> Result<(Boxed<Expr>, &'a str), Stop>
-        requires { Nests self.now.source (F.pre self.now.open) (F.post self.now.open) }
+        requires { Nests self.now.source (F.pre self.now.nested) (F.post self.now.nested) }
         ensures { Opens term (at self.now.source spec.enclosed rest.now) result }
     {
         let after = self.word(rest, "{")?;

@@ -15,7 +15,7 @@ mod written;
 
 pub use class::{CharClass, first};
 pub use closings::comment_ends;
-pub use descent::{Descent, required, tried};
+pub use descent::{Descent, tried};
 pub use source::{Source, front};
 pub use written::{
     Quote, Target, WrittenChar, WrittenName, WrittenNumber, WrittenStep, WrittenString,

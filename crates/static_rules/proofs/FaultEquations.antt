@@ -1,7 +1,7 @@
 -- The faults of a term, by its kind.
 use Rattle.std.specs.Prelude.{◌≡◌, ℕ, Bool, List, [], map, Option, Some, None}
 use Rattle.std.specs.Option.{option_map}
-use Rattle.std.proofs.Common.{ap, sym, ◌∙◌}
+use Rattle.std.proofs.Common.{ap, sym, ◌∙◌, refl}
 use Rattle.tree_model.specs.declared.axis.Axis.{Axis}
 use Rattle.query_terms.specs.declared.parts.Span.{Span}
 use Rattle.query_terms.specs.declared.parts.QName.{QName}
@@ -14,10 +14,10 @@ use Rattle.query_terms.specs.declared.parts.Comparator.{Comparator}
 use Rattle.query_terms.specs.declared.parts.PathStart.{PathStart}
 use Rattle.query_terms.specs.declared.parts.Quantifier.{Quantifier}
 use Rattle.query_terms.specs.declared.parts.ComputedKind.{ComputedKind}
-use Rattle.query_terms.specs.declared.parts.LeafKind.{LeafKind}
+use Rattle.query_terms.specs.declared.parts.UnnamedKind.{UnnamedKind}
 use Rattle.query_terms.specs.declared.tree.Clause.TheOpen.{Clause-F, Content-F, Expr-F}
 use Rattle.query_terms.specs.declared.tree.Clause.TheFolds.{fold_out-Attribute, fold_out-Operand, fold_out-OrderKey, fold_out-PathStep, fold-roll-Clause, fold-roll-Content, fold-roll-Expr, map-Clause, map-Content, map-Expr}
-use Rattle.query_terms.specs.declared.tree.Clause.TheViews.{out-Attribute, out-Operand, out-OrderKey, out-PathStep, roll-Clause, roll-Content, roll-Expr}
+use Rattle.query_terms.specs.declared.tree.Clause.TheViews.{out-Clause, out-Content, roll-out-Clause, roll-out-Content, out-Attribute, out-Operand, out-OrderKey, out-PathStep, roll-Clause, roll-Content, roll-Expr}
 use Rattle.query_terms.specs.declared.tree.Attribute.{Attribute}
 use Rattle.query_terms.specs.declared.tree.Clause.{Clause}
 use Rattle.query_terms.specs.declared.tree.Clause.TheVariants as clauses
@@ -28,6 +28,7 @@ use Rattle.query_terms.specs.declared.tree.Expr.TheVariants as exprs
 use Rattle.query_terms.specs.declared.tree.Operand.{Operand}
 use Rattle.query_terms.specs.declared.tree.OrderKey.{OrderKey}
 use Rattle.query_terms.specs.declared.tree.PathStep.{PathStep}
+use Rattle.name_scopes.specs.Declares.{characters_in, text_of}
 use Rattle.query_terms.specs.Static.{Environment, Meaning, ClauseMeaning, ContentMeaning, AttributeMeaning, in_attribute, in_clause, in_content, in_expression, in_key, in_operand, in_step, faults, clause, content, attribute, operand, key, step, many, both, maybe, choice, flwor, within, test_faults, number_faults, literal_faults, variable_faults, element, computed, computed_by_value, call, for_faults, for_behind, let_faults, with_variable, attribute_faults, declared_by}
 
 faults_roll : (x : Expr-F Clause Content Expr Attribute Operand OrderKey PathStep) → faults (roll-Expr x) ≡ in_expression (map-Expr Clause Content Expr Attribute Operand OrderKey PathStep ClauseMeaning ContentMeaning Meaning AttributeMeaning Meaning Meaning Meaning clause content faults attribute operand key step x)
@@ -139,8 +140,8 @@ pub computed_by_value_is : (span : Span) (kind : ComputedKind) (name : Expr) (sc
 computed_by_value_is span kind name scope None = ap faults (sym (exprs.rolls-ComputedByValue span kind name scope None)) ∙ faults_roll (Expr-F.ComputedByValue span kind name scope None)
 computed_by_value_is span kind name scope (Some e) = ap faults (sym (exprs.rolls-ComputedByValue span kind name scope (Some e))) ∙ faults_roll (Expr-F.ComputedByValue span kind name scope (Some e))
 
-pub computed_leaf_is : (span : Span) (kind : LeafKind) (body : Expr) → faults (exprs.ComputedLeaf span kind body) ≡ (faults body)
-computed_leaf_is span kind body = ap faults (sym (exprs.rolls-ComputedLeaf span kind body)) ∙ faults_roll (Expr-F.ComputedLeaf span kind body)
+pub computed_unnamed_is : (span : Span) (kind : UnnamedKind) (body : Expr) → faults (exprs.ComputedUnnamed span kind body) ≡ (faults body)
+computed_unnamed_is span kind body = ap faults (sym (exprs.rolls-ComputedUnnamed span kind body)) ∙ faults_roll (Expr-F.ComputedUnnamed span kind body)
 
 pub call_is : (span : Span) (name : QName) (arguments : List Expr) → faults (exprs.Call span name arguments) ≡ call name (map faults arguments)
 call_is span name arguments = ap faults (sym (exprs.rolls-Call span name arguments)) ∙ faults_roll (Expr-F.Call span name arguments)
@@ -160,20 +161,11 @@ let_behind_is v value = ap (λ (c : ClauseMeaning). c.behind) (ap clause (sym (c
 pub characters_faults_is : (l : Literal) (env : Environment) → (content (contents.Characters l)).faults env ≡ literal_faults l
 characters_faults_is l env = ap (λ (c : ContentMeaning). c.faults env) (ap content (sym (contents.rolls-Characters l)) ∙ content_roll (Content-F.Characters l))
 
-pub characters_text_is : (l : Literal) → (content (contents.Characters l)).text ≡ l.text
-characters_text_is l = ap (λ (c : ContentMeaning). c.text) (ap content (sym (contents.rolls-Characters l)) ∙ content_roll (Content-F.Characters l))
-
 pub enclosed_faults_is : (body : Expr) (env : Environment) → (content (contents.Enclosed body)).faults env ≡ faults body env
 enclosed_faults_is body env = ap (λ (c : ContentMeaning). c.faults env) (ap content (sym (contents.rolls-Enclosed body)) ∙ content_roll (Content-F.Enclosed body))
 
-pub enclosed_text_is : (body : Expr) → (content (contents.Enclosed body)).text ≡ []
-enclosed_text_is body = ap (λ (c : ContentMeaning). c.text) (ap content (sym (contents.rolls-Enclosed body)) ∙ content_roll (Content-F.Enclosed body))
-
 pub constructor_faults_is : (body : Expr) (env : Environment) → (content (contents.Constructor body)).faults env ≡ faults body env
 constructor_faults_is body env = ap (λ (c : ContentMeaning). c.faults env) (ap content (sym (contents.rolls-Constructor body)) ∙ content_roll (Content-F.Constructor body))
-
-pub constructor_text_is : (body : Expr) → (content (contents.Constructor body)).text ≡ []
-constructor_text_is body = ap (λ (c : ContentMeaning). c.text) (ap content (sym (contents.rolls-Constructor body)) ∙ content_roll (Content-F.Constructor body))
 
 pub operand_is : (x : Operand) → operand x ≡ faults (out-Operand x).operand
 unfolding clause content faults attribute operand key step
@@ -195,6 +187,25 @@ pub attribute_declared_is : (a : Attribute) → (attribute a).declared ≡ decla
 unfolding clause content faults attribute operand key step
 attribute_declared_is a = ap (λ (m : AttributeMeaning). m.declared) (fold_out-Attribute ClauseMeaning ContentMeaning Meaning AttributeMeaning Meaning Meaning Meaning in_clause in_content in_expression in_attribute in_operand in_key in_step a)
 
-pub ruleset by_kind = (comma_is, flwor_is, quantified_is, if_is, insert_is, delete_is, replace_is, rename_is, or_is, and_is, comparison_is, range_is, additive_is, multiplicative_is, union_is, intersection_is, unary_is, root_is, path_is, filter_is, axis_step_is, number_is, string_is, variable_is, parenthesized_is, context_item_is, element_is, direct_comment_is, direct_instruction_is, computed_is, computed_by_value_is, computed_leaf_is, call_is)
+text_by : (x : Content-F Clause Content Expr Attribute Operand OrderKey PathStep) → (in_content (map-Content Clause Content Expr Attribute Operand OrderKey PathStep ClauseMeaning ContentMeaning Meaning AttributeMeaning Meaning Meaning Meaning clause content faults attribute operand key step x)).text ≡ characters_in x
+text_by (Content-F.Characters l) = refl
+text_by (Content-F.Enclosed body) = refl
+text_by (Content-F.Constructor body) = refl
 
-pub ruleset by_part = (for_faults_is, for_behind_is, let_faults_is, let_behind_is, characters_faults_is, characters_text_is, enclosed_faults_is, enclosed_text_is, constructor_faults_is, constructor_text_is, operand_is, key_is, step_is, attribute_faults_is, attribute_declared_is)
+pub text_is : (c : Content) → (content c).text ≡ text_of c
+text_is c = ap (λ (m : ContentMeaning). m.text) (ap content (sym (roll-out-Content c)) ∙ content_roll (out-Content c)) ∙ text_by (out-Content c)
+
+abbrev pub behind_by : Clause-F Clause Content Expr Attribute Operand OrderKey PathStep → Environment → Environment
+behind_by (Clause-F.For v position source) = for_behind v position
+behind_by (Clause-F.Let v value) = with_variable v
+
+behind_same : (x : Clause-F Clause Content Expr Attribute Operand OrderKey PathStep) → (in_clause (map-Clause Clause Content Expr Attribute Operand OrderKey PathStep ClauseMeaning ContentMeaning Meaning AttributeMeaning Meaning Meaning Meaning clause content faults attribute operand key step x)).behind ≡ behind_by x
+behind_same (Clause-F.For v position source) = refl
+behind_same (Clause-F.Let v value) = refl
+
+pub behind_is : (c : Clause) → (clause c).behind ≡ behind_by (out-Clause c)
+behind_is c = ap (λ (m : ClauseMeaning). m.behind) (ap clause (sym (roll-out-Clause c)) ∙ clause_roll (out-Clause c)) ∙ behind_same (out-Clause c)
+
+pub ruleset by_kind = (comma_is, flwor_is, quantified_is, if_is, insert_is, delete_is, replace_is, rename_is, or_is, and_is, comparison_is, range_is, additive_is, multiplicative_is, union_is, intersection_is, unary_is, root_is, path_is, filter_is, axis_step_is, number_is, string_is, variable_is, parenthesized_is, context_item_is, element_is, direct_comment_is, direct_instruction_is, computed_is, computed_by_value_is, computed_unnamed_is, call_is)
+
+pub ruleset by_part = (for_faults_is, for_behind_is, let_faults_is, let_behind_is, characters_faults_is, enclosed_faults_is, constructor_faults_is, operand_is, key_is, step_is, attribute_faults_is, attribute_declared_is)

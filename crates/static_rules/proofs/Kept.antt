@@ -5,21 +5,23 @@ use Rattle.tree_model.specs.declared.text.Name.{Name}
 use Rattle.query_terms.specs.declared.parts.QName.{QName}
 use Rattle.query_terms.specs.declared.tree.Attribute.{Attribute, out-Attribute}
 use Rattle.query_terms.specs.declared.tree.Clause.{Clause}
-use Rattle.query_terms.specs.declared.tree.Clause.TheVariants as clauses
+use Rattle.query_terms.specs.declared.tree.Clause.TheOpen.{Clause-F}
+use Rattle.query_terms.specs.declared.tree.Clause.TheViews.{out-Clause}
 use Rattle.query_terms.specs.declared.tree.Content.{Content}
-use Rattle.query_terms.specs.declared.tree.Content.TheVariants as contents
+use Rattle.query_terms.specs.declared.tree.Expr.{Expr}
+use Rattle.query_terms.specs.declared.tree.Operand.{Operand}
+use Rattle.query_terms.specs.declared.tree.OrderKey.{OrderKey}
+use Rattle.query_terms.specs.declared.tree.PathStep.{PathStep}
 use Rattle.query_terms.specs.Static.{Environment, AttributeMeaning, ContentMeaning, attribute, bound_names, clause, clauses_behind, content, declared_in, element, for_behind, in_element, with_bindings, with_variable}
 use Rattle.name_scopes.specs.Kept.{with_variables}
 use Rattle.name_scopes.specs.Declares.{declared_of, text_of}
-use Rattle.static_rules.proofs.FaultEquations.{attribute_declared_is, characters_text_is, enclosed_text_is, constructor_text_is, for_behind_is, let_behind_is}
+use Rattle.static_rules.proofs.FaultEquations.{attribute_declared_is, behind_by, behind_is, text_is}
 
 -- ---- declarations
 
 text_same : (xs : List Content) → map (λ (c : ContentMeaning). c.text) (map content xs) ≡ map text_of xs
 text_same [] = refl
-text_same (contents.Characters l ∷ xs) = rw (characters_text_is l) (ap (λ z. l.text ∷ z) (text_same xs))
-text_same (contents.Enclosed e ∷ xs) = rw (enclosed_text_is e) (ap (λ z. [] ∷ z) (text_same xs))
-text_same (contents.Constructor e ∷ xs) = rw (constructor_text_is e) (ap (λ z. [] ∷ z) (text_same xs))
+text_same (c ∷ xs) = rw (text_is c) (ap (λ z. text_of c ∷ z) (text_same xs))
 
 pub declared_same : (xs : List Attribute) → map (λ (a : AttributeMeaning). a.declared) (map attribute xs) ≡ map declared_of xs
 declared_same [] = refl
@@ -34,15 +36,17 @@ element_is q xs cs env inner inner_is =
 -- ---- variables
 
 -- a clause adds variables alone
-adds : (c : Clause) (env : Environment) → (names : List Name) × ((clause c).behind env ≡ with_variables (env.variables ++ names) env)
+adds_by : (x : Clause-F Clause Content Expr Attribute Operand OrderKey PathStep) (env : Environment) → (names : List Name) × (behind_by x env ≡ with_variables (env.variables ++ names) env)
 unfolding with_variable for_behind
-adds (clauses.For v None source) env = (bound_names env.bindings v, ap (λ (f : Environment → Environment). f env) (for_behind_is v None source))
-adds (clauses.For v (Some p) source) env = (
+adds_by (Clause-F.For v None source) env = (bound_names env.bindings v, refl)
+adds_by (Clause-F.For v (Some p) source) env = (
   bound_names env.bindings v ++ bound_names env.bindings p,
-  ap (λ (f : Environment → Environment). f env) (for_behind_is v (Some p) source)
-      ∙ ap (λ names. with_variables names env) (append_assoc env.variables (bound_names env.bindings v) (bound_names env.bindings p)),
+  ap (λ names. with_variables names env) (append_assoc env.variables (bound_names env.bindings v) (bound_names env.bindings p)),
 )
-adds (clauses.Let v value) env = (bound_names env.bindings v, ap (λ (f : Environment → Environment). f env) (let_behind_is v value))
+adds_by (Clause-F.Let v value) env = (bound_names env.bindings v, refl)
+
+adds : (c : Clause) (env : Environment) → (names : List Name) × ((clause c).behind env ≡ with_variables (env.variables ++ names) env)
+adds c env = let x = adds_by (out-Clause c) env in (x.0, ap (λ (f : Environment → Environment). f env) (behind_is c) ∙ x.1)
 
 all_add : (cs : List Clause) (env : Environment) → (names : List Name) × (clauses_behind (map clause cs) env ≡ with_variables (env.variables ++ names) env)
 unfolding clauses_behind

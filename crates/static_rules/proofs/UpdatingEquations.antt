@@ -14,7 +14,7 @@ use Rattle.query_terms.specs.declared.parts.Comparator.{Comparator}
 use Rattle.query_terms.specs.declared.parts.PathStart.{PathStart}
 use Rattle.query_terms.specs.declared.parts.Quantifier.{Quantifier}
 use Rattle.query_terms.specs.declared.parts.ComputedKind.{ComputedKind}
-use Rattle.query_terms.specs.declared.parts.LeafKind.{LeafKind}
+use Rattle.query_terms.specs.declared.parts.UnnamedKind.{UnnamedKind}
 use Rattle.query_terms.specs.declared.tree.Clause.TheOpen.{Expr-F}
 use Rattle.query_terms.specs.declared.tree.Clause.TheFolds.{fold-Attribute, fold-Clause, fold-Content, fold-Operand, fold-OrderKey, fold-PathStep, fold-roll-Expr, map-Expr}
 use Rattle.query_terms.specs.declared.tree.Clause.TheViews.{roll-Expr}
@@ -127,8 +127,8 @@ computed_is span kind name body = ap is_updating (sym (exprs.rolls-Computed span
 pub computed_by_value_is : (span : Span) (kind : ComputedKind) (name : Expr) (scope : Scope) (body : Option Expr) → is_updating (exprs.ComputedByValue span kind name scope body) ≡ false
 computed_by_value_is span kind name scope body = ap is_updating (sym (exprs.rolls-ComputedByValue span kind name scope body)) ∙ updating_roll (Expr-F.ComputedByValue span kind name scope body)
 
-pub computed_leaf_is : (span : Span) (kind : LeafKind) (body : Expr) → is_updating (exprs.ComputedLeaf span kind body) ≡ false
-computed_leaf_is span kind body = ap is_updating (sym (exprs.rolls-ComputedLeaf span kind body)) ∙ updating_roll (Expr-F.ComputedLeaf span kind body)
+pub computed_unnamed_is : (span : Span) (kind : UnnamedKind) (body : Expr) → is_updating (exprs.ComputedUnnamed span kind body) ≡ false
+computed_unnamed_is span kind body = ap is_updating (sym (exprs.rolls-ComputedUnnamed span kind body)) ∙ updating_roll (Expr-F.ComputedUnnamed span kind body)
 
 pub call_is : (span : Span) (name : QName) (arguments : List Expr) → is_updating (exprs.Call span name arguments) ≡ false
 call_is span name arguments = ap is_updating (sym (exprs.rolls-Call span name arguments)) ∙ updating_roll (Expr-F.Call span name arguments)
@@ -139,4 +139,4 @@ parenthesized_none_is span = parenthesized_is span None
 pub parenthesized_some_is : (span : Span) (e : Expr) → is_updating (exprs.Parenthesized span (Some e)) ≡ is_updating e
 parenthesized_some_is span e = parenthesized_is span (Some e)
 
-pub ruleset by_kind = (comma_is, flwor_is, quantified_is, if_is, insert_is, delete_is, replace_is, rename_is, or_is, and_is, comparison_is, range_is, additive_is, multiplicative_is, union_is, intersection_is, unary_is, root_is, path_is, filter_is, axis_step_is, number_is, string_is, variable_is, context_item_is, element_is, direct_comment_is, direct_instruction_is, computed_is, computed_by_value_is, computed_leaf_is, call_is, parenthesized_none_is, parenthesized_some_is)
+pub ruleset by_kind = (comma_is, flwor_is, quantified_is, if_is, insert_is, delete_is, replace_is, rename_is, or_is, and_is, comparison_is, range_is, additive_is, multiplicative_is, union_is, intersection_is, unary_is, root_is, path_is, filter_is, axis_step_is, number_is, string_is, variable_is, context_item_is, element_is, direct_comment_is, direct_instruction_is, computed_is, computed_by_value_is, computed_unnamed_is, call_is, parenthesized_none_is, parenthesized_some_is)

@@ -63,7 +63,7 @@ pub(crate) fn is_updating(e: &Expr) -> bool
         | Expr::DirectInstruction { .. }
         | Expr::Computed { .. }
         | Expr::ComputedByValue { .. }
-        | Expr::ComputedLeaf { .. }
+        | Expr::ComputedUnnamed { .. }
         | Expr::Call { .. } => false,
     }
 }

@@ -11,14 +11,11 @@ use crate::state::State;
 use crate::updating::is_updating;
 use crate::walk::find;
 use name_resolver::resolve;
-use name_scopes::Environment;
+use name_scopes::{Environment, MAX_DEPTH};
 use query_terms::Query;
 use sqlite_items::Boxed;
 use std::alloc::Global;
 use tree_model::{NoMemory, Refusal};
-
-// How deep expressions may stand in one another. Those that are read from a text stand far less deep.
-const MAX_DEPTH: usize = 100_000;
 
 /// A query without a static fault. Its names have their URIs.
 #[derive(Drop)]
@@ -73,7 +70,7 @@ fn resolved(alloc: Global, query: Query) -> Result<Query, NoMemory>
 /// those of references to characters, of numbers, of prefixes, of variables and of calls, in this order.
 ///
 /// Each pass over the query takes time linear in the number of its terms, where looking up a name walks over the bindings
-/// that are in force. `NoMemory` is also the answer where more than 100,000 expressions stand in one another.
+/// that are in force, and a declaration of the prolog is compared with those in front of it. `NoMemory` is also the answer where more than 100,000 expressions stand in one another.
 pub fn check(alloc: Global, query: Query) -> Result<Checked, Refusal>
     ensures { Checks query result }
 {

@@ -78,7 +78,7 @@ impl<F: Fn(Global, usize, &mut State, &Expr) -> Result<(), NoMemory>> Walk<F> {
         requires { Walks self.now.depth (F.pre self.now.walk) (F.post self.now.walk) }
         ensures { Walked (spec.operand operand.now) result state.old state.new }
     {
-        self.part(state, &operand.operand)
+        self.part(state, operand.operand.get())
     }
 
     #[tactic(auto, unfolding(query_terms::specs::Static::all))]
@@ -97,7 +97,7 @@ impl<F: Fn(Global, usize, &mut State, &Expr) -> Result<(), NoMemory>> Walk<F> {
         requires { Walks self.now.depth (F.pre self.now.walk) (F.post self.now.walk) }
         ensures { Walked (spec.step step.now) result state.old state.new }
     {
-        self.part(state, &step.step)
+        self.part(state, step.step.get())
     }
 
     #[tactic(auto, unfolding(query_terms::specs::Static::all))]
@@ -116,7 +116,7 @@ impl<F: Fn(Global, usize, &mut State, &Expr) -> Result<(), NoMemory>> Walk<F> {
         requires { Walks self.now.depth (F.pre self.now.walk) (F.post self.now.walk) }
         ensures { Walked (spec.key key.now) result state.old state.new }
     {
-        self.part(state, &key.key)
+        self.part(state, key.key.get())
     }
 
     #[tactic(auto, unfolding(query_terms::specs::Static::all))]
@@ -214,8 +214,8 @@ impl<F: Fn(Global, usize, &mut State, &Expr) -> Result<(), NoMemory>> Walk<F> {
                 variable,
                 position,
                 source,
-            } => self.for_clause(state, variable, position, source),
-            Clause::Let { variable, value } => self.let_clause(state, variable, value),
+            } => self.for_clause(state, variable, position, source.get()),
+            Clause::Let { variable, value } => self.let_clause(state, variable, value.get()),
         }
     }
 
@@ -288,8 +288,8 @@ impl<F: Fn(Global, usize, &mut State, &Expr) -> Result<(), NoMemory>> Walk<F> {
                 state.found.note_literal(literal);
                 Ok(())
             }
-            Content::Enclosed(body) => self.part(state, body),
-            Content::Constructor(body) => self.part(state, body),
+            Content::Enclosed(body) => self.part(state, body.get()),
+            Content::Constructor(body) => self.part(state, body.get()),
         }
     }
 
@@ -484,7 +484,7 @@ impl<F: Fn(Global, usize, &mut State, &Expr) -> Result<(), NoMemory>> Walk<F> {
             } => self.both(state, first.get(), second.get()),
             Expr::Delete { target: part, .. }
             | Expr::Unary { operand: part, .. }
-            | Expr::ComputedLeaf { body: part, .. } => self.part(state, part.get()),
+            | Expr::ComputedUnnamed { body: part, .. } => self.part(state, part.get()),
             Expr::Parenthesized { body, .. } => self.maybe(state, body),
             Expr::Element {
                 name,

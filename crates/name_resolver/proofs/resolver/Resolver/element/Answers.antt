@@ -1,6 +1,6 @@
 use Rattle.std.proofs.Common.{ap, ◌∙◌}
 use Rattle.query_terms.specs.Static.{Environment}
-use Rattle.name_scopes.specs.Kept.{bindings_kept}
+use Rattle.name_scopes.proofs.Bindings.{bindings_kept}
 use Rattle.name_resolver.specs.Gives.{element}
 use Rattle.name_resolver.proofs.resolver.Resolver.element.Goals as goal
 

@@ -1,4 +1,4 @@
-use Rattle.name_resolver.proofs.Equations.{gives_along, additive_is, and_is, call_is, comma_is, comparison_is, computed_by_value_is, computed_is, computed_leaf_is, delete_is, element_is, filter_is, flwor_is, if_is, insert_is, intersection_is, multiplicative_is, or_is, parenthesized_is, path_is, quantified_is, range_is, rename_is, replace_is, unary_is, union_is}
+use Rattle.name_resolver.proofs.Equations.{gives_along, additive_is, and_is, call_is, comma_is, comparison_is, computed_by_value_is, computed_is, computed_unnamed_is, delete_is, element_is, filter_is, flwor_is, if_is, insert_is, intersection_is, multiplicative_is, or_is, parenthesized_is, path_is, quantified_is, range_is, rename_is, replace_is, unary_is, union_is}
 use Rattle.name_resolver.proofs.resolver.Resolver.expression.Goals as goal
 
 pub returns-in-Comma : goal.returns-in-Comma
@@ -67,8 +67,8 @@ returns-in-Computed g c = rw c.in-Computed.is (gives_along _ _ _ _ _ (λ b. comp
 pub returns-in-ComputedByValue : goal.returns-in-ComputedByValue
 returns-in-ComputedByValue g c = rw c.in-ComputedByValue.is (gives_along _ _ _ _ _ (λ b. computed_by_value_is _ _ _ c.in-ComputedByValue.scope _ b) (rw c.get-in-ComputedByValue.ensures at c.computed_by_value.ensures))
 
-pub returns-in-ComputedLeaf : goal.returns-in-ComputedLeaf
-returns-in-ComputedLeaf g c = rw c.in-ComputedLeaf.is (gives_along _ _ _ _ _ (λ b. computed_leaf_is _ _ _ b) (rw c.get-in-ComputedLeaf.ensures at c.computed_leaf.ensures))
+pub returns-in-ComputedUnnamed : goal.returns-in-ComputedUnnamed
+returns-in-ComputedUnnamed g c = rw c.in-ComputedUnnamed.is (gives_along _ _ _ _ _ (λ b. computed_unnamed_is _ _ _ b) (rw c.get-in-ComputedUnnamed.ensures at c.computed_unnamed.ensures))
 
 pub returns-in-Call : goal.returns-in-Call
 returns-in-Call g c = rw c.in-Call.is (gives_along _ _ _ _ _ (λ b. call_is _ _ _ b) (rw c.as_slice-in-Call.ensures at c.call.ensures))

@@ -1,6 +1,6 @@
 use Rattle.std.proofs.Common.{ap, ◌∙◌}
 use Rattle.query_terms.specs.Static.{least_of}
-use Rattle.name_scopes.specs.Kept.{bindings_kept}
+use Rattle.name_scopes.proofs.Bindings.{bindings_kept}
 use Rattle.static_rules.proofs.Kept.{element_is}
 use Rattle.static_rules.proofs.walk.Walk.element.Goals as goal
 

@@ -1,0 +1,246 @@
+// The clauses that bind variables (XQuery 1.0, section 3.8.1).
+ghost use Rattle.std.specs.Prelude.{◌≡◌, ◌∷◌, IfOk, Ok};
+ghost use Rattle.query_terms.specs.Rule.{term, clause, clauses, opt, alt, many};
+ghost use Rattle.query_terms.specs.Grammar as spec;
+ghost use Rattle.query_tokens.specs.Reads.{at, as_variable, variable_written, Reads};
+ghost use Rattle.query_tokens.specs.Descends.{Nests, Opens, Gathers};
+ghost use Rattle.query_terms.specs.declared.tree.Clause.TheVariants as bindings;
+ghost use Rattle.query_clauses.specs.Parts.{as_maybe_variable};
+
+use query_terms::{Clause, Expr, Nest, Stop};
+use query_tokens::{Descent, Source, WrittenVariable, tried};
+use sqlite_items::{Boxed, Items};
+use std::alloc::Global;
+use tree_model::NoMemory;
+
+/// A place to read expressions at that begin with a word of their own.
+#[derive(Clone, Copy)]
+pub struct ClauseReader<'a, F> {
+    pub descent: Descent<'a, F>,
+}
+
+#[tactic(auto, unfolding(query_terms::specs::Grammar::position_variable))]
+fn position<'a>(source: &Source<'a>, rest: &'a str) -> Option<(WrittenVariable<'a>, &'a str)>
+    ensures { Reads as_variable (at source.now spec.position_variable rest.now) result }
+{
+    let after = source.blanks(rest);
+    let after = source.keyword(after, "at")?;
+    source.variable(after)
+}
+
+fn maybe_position<'a>(source: &Source<'a>, rest: &'a str) -> (Option<WrittenVariable<'a>>, &'a str)
+    ensures { at source.now (opt spec.position_variable) rest.now ≡ Ok (as_maybe_variable result.0, result.1.now) }
+{
+    match position(source, rest) {
+        Some((found, after)) => (Some(found), after),
+        None => (None, rest),
+    }
+}
+
+fn for_term(
+    alloc: Global,
+    variable: WrittenVariable<'_>,
+    position: Option<WrittenVariable<'_>>,
+    source: Boxed<Expr>,
+) -> Result<Clause, NoMemory>
+    ensures { IfOk result (λ c. c ≡ bindings.For (variable_written variable.entry) (spec.maybe_variable (as_maybe_variable position.entry)) source) }
+{
+    let variable = variable.store(alloc)?;
+    let position = match position {
+        Some(position) => Some(position.store(alloc)?),
+        None => None,
+    };
+    Ok(Clause::For {
+        variable,
+        position,
+        source,
+    })
+}
+
+pub(crate) fn with_others(
+    alloc: Global,
+    first: Clause,
+    others: Items<Clause>,
+) -> Result<Items<Clause>, NoMemory>
+    ensures { IfOk result (λ found. found ≡ first ∷ others) }
+{
+    let mut found = Items::new(alloc);
+    found.push(first)?;
+    found.append(others)?;
+    Ok(found)
+}
+
+impl<
+    'a,
+    F: Fn(Global, Source<'a>, Nest, &'a str) -> Result<(Boxed<Expr>, &'a str), Stop>,
+> ClauseReader<'a, F> {
+    #[tactic(auto, unfolding(query_terms::specs::Grammar::bound_items))]
+    pub(crate) fn bound_items(&self, rest: &'a str) -> Result<(Boxed<Expr>, &'a str), Stop>
+        requires { Nests self.now.descent.source (F.pre self.now.descent.nested) (F.post self.now.descent.nested) }
+        ensures { Opens term (at self.now.descent.source spec.bound_items rest.now) result }
+    {
+        let after = self.descent.blanks(rest);
+        let after = self.descent.keyword(after, "in")?;
+        self.descent.single(after)
+    }
+
+    #[tactic(auto, unfolding(query_terms::specs::Grammar::for_variable))]
+    fn for_variable(&self, rest: &'a str) -> Result<(Clause, &'a str), Stop>
+        requires { Nests self.now.descent.source (F.pre self.now.descent.nested) (F.post self.now.descent.nested) }
+        ensures { Opens clause (at self.now.descent.source spec.for_variable rest.now) result }
+    {
+        let (variable, after) = self.descent.source.variable(rest).ok_or(Stop::Refused)?;
+        let (position, after) = maybe_position(&self.descent.source, after);
+        let (source, after) = self.bound_items(after)?;
+        let bound = for_term(self.descent.alloc, variable, position, source)?;
+        Ok((bound, after))
+    }
+
+    #[tactic(auto, unfolding(query_terms::specs::Grammar::next_for_variable))]
+    fn next_for_variable(&self, rest: &'a str) -> Result<(Clause, &'a str), Stop>
+        requires { Nests self.now.descent.source (F.pre self.now.descent.nested) (F.post self.now.descent.nested) }
+        ensures { Opens clause (at self.now.descent.source spec.next_for_variable rest.now) result }
+    {
+        let after = self.descent.blanks(rest);
+        let after = self.descent.word(after, ",")?;
+        let after = self.descent.blanks(after);
+        self.for_variable(after)
+    }
+
+    fn next_for_variables(&self, rest: &'a str) -> Result<(Items<Clause>, &'a str), Stop>
+        requires { Nests self.now.descent.source (F.pre self.now.descent.nested) (F.post self.now.descent.nested) }
+        ensures { Gathers spec.clauses_in (at self.now.descent.source (many spec.next_for_variable) rest.now) result }
+    {
+        let mut found = Items::new(self.descent.alloc);
+        let mut after = rest;
+        for _turn in 0..rest.len() {
+            match self.next_for_variable(after) {
+                Ok((item, next)) => {
+                    found.push(item)?;
+                    after = next;
+                }
+                Err(Stop::Refused) => return Ok((found, after)),
+                Err(Stop::TooDeep) => return Err(Stop::TooDeep),
+                Err(Stop::NoMemory) => return Err(Stop::NoMemory),
+            }
+        }
+        Ok((found, after))
+    }
+
+    #[tactic(auto, unfolding(query_terms::specs::Grammar::for_clause))]
+    fn for_clause(&self, rest: &'a str) -> Result<(Items<Clause>, &'a str), Stop>
+        requires { Nests self.now.descent.source (F.pre self.now.descent.nested) (F.post self.now.descent.nested) }
+        ensures { Opens clauses (at self.now.descent.source spec.for_clause rest.now) result }
+    {
+        let after = self.descent.keyword(rest, "for")?;
+        let (first, after) = self.for_variable(after)?;
+        let (others, after) = self.next_for_variables(after)?;
+        Ok((with_others(self.descent.alloc, first, others)?, after))
+    }
+
+    #[tactic(auto, unfolding(query_terms::specs::Grammar::let_variable))]
+    fn let_variable(&self, rest: &'a str) -> Result<(Clause, &'a str), Stop>
+        requires { Nests self.now.descent.source (F.pre self.now.descent.nested) (F.post self.now.descent.nested) }
+        ensures { Opens clause (at self.now.descent.source spec.let_variable rest.now) result }
+    {
+        let (variable, after) = self.descent.source.variable(rest).ok_or(Stop::Refused)?;
+        let after = self.descent.blanks(after);
+        let after = self.descent.word(after, ":=")?;
+        let after = self.descent.blanks(after);
+        let (value, after) = self.descent.single(after)?;
+        let variable = variable.store(self.descent.alloc)?;
+        Ok((Clause::Let { variable, value }, after))
+    }
+
+    #[tactic(auto, unfolding(query_terms::specs::Grammar::next_let_variable))]
+    fn next_let_variable(&self, rest: &'a str) -> Result<(Clause, &'a str), Stop>
+        requires { Nests self.now.descent.source (F.pre self.now.descent.nested) (F.post self.now.descent.nested) }
+        ensures { Opens clause (at self.now.descent.source spec.next_let_variable rest.now) result }
+    {
+        let after = self.descent.blanks(rest);
+        let after = self.descent.word(after, ",")?;
+        let after = self.descent.blanks(after);
+        self.let_variable(after)
+    }
+
+    fn next_let_variables(&self, rest: &'a str) -> Result<(Items<Clause>, &'a str), Stop>
+        requires { Nests self.now.descent.source (F.pre self.now.descent.nested) (F.post self.now.descent.nested) }
+        ensures { Gathers spec.clauses_in (at self.now.descent.source (many spec.next_let_variable) rest.now) result }
+    {
+        let mut found = Items::new(self.descent.alloc);
+        let mut after = rest;
+        for _turn in 0..rest.len() {
+            match self.next_let_variable(after) {
+                Ok((item, next)) => {
+                    found.push(item)?;
+                    after = next;
+                }
+                Err(Stop::Refused) => return Ok((found, after)),
+                Err(Stop::TooDeep) => return Err(Stop::TooDeep),
+                Err(Stop::NoMemory) => return Err(Stop::NoMemory),
+            }
+        }
+        Ok((found, after))
+    }
+
+    #[tactic(auto, unfolding(query_terms::specs::Grammar::let_clause))]
+    fn let_clause(&self, rest: &'a str) -> Result<(Items<Clause>, &'a str), Stop>
+        requires { Nests self.now.descent.source (F.pre self.now.descent.nested) (F.post self.now.descent.nested) }
+        ensures { Opens clauses (at self.now.descent.source spec.let_clause rest.now) result }
+    {
+        let after = self.descent.keyword(rest, "let")?;
+        let (first, after) = self.let_variable(after)?;
+        let (others, after) = self.next_let_variables(after)?;
+        Ok((with_others(self.descent.alloc, first, others)?, after))
+    }
+
+    fn for_or_let(&self, rest: &'a str) -> Result<(Items<Clause>, &'a str), Stop>
+        requires { Nests self.now.descent.source (F.pre self.now.descent.nested) (F.post self.now.descent.nested) }
+        ensures { Opens clauses (at self.now.descent.source (alt spec.for_clause spec.let_clause) rest.now) result }
+    {
+        if let Some(found) = tried(self.for_clause(rest))? {
+            return Ok(found);
+        }
+        self.let_clause(rest)
+    }
+
+    #[tactic(auto, unfolding(query_terms::specs::Grammar::binding_clause))]
+    fn binding_clause(&self, rest: &'a str) -> Result<(Items<Clause>, &'a str), Stop>
+        requires { Nests self.now.descent.source (F.pre self.now.descent.nested) (F.post self.now.descent.nested) }
+        ensures { Opens clauses (at self.now.descent.source spec.binding_clause rest.now) result }
+    {
+        let (found, after) = self.for_or_let(rest)?;
+        Ok((found, self.descent.blanks(after)))
+    }
+
+    fn next_binding_clauses(&self, rest: &'a str) -> Result<(Items<Clause>, &'a str), Stop>
+        requires { Nests self.now.descent.source (F.pre self.now.descent.nested) (F.post self.now.descent.nested) }
+        ensures { Gathers spec.clauses_in (at self.now.descent.source (many spec.binding_clause) rest.now) result }
+    {
+        let mut found = Items::new(self.descent.alloc);
+        let mut after = rest;
+        for _turn in 0..rest.len() {
+            match self.binding_clause(after) {
+                Ok((item, next)) => {
+                    found.append(item)?;
+                    after = next;
+                }
+                Err(Stop::Refused) => return Ok((found, after)),
+                Err(Stop::TooDeep) => return Err(Stop::TooDeep),
+                Err(Stop::NoMemory) => return Err(Stop::NoMemory),
+            }
+        }
+        Ok((found, after))
+    }
+
+    #[tactic(auto, unfolding(query_terms::specs::Grammar::binding_clauses))]
+    pub(crate) fn binding_clauses(&self, rest: &'a str) -> Result<(Items<Clause>, &'a str), Stop>
+        requires { Nests self.now.descent.source (F.pre self.now.descent.nested) (F.post self.now.descent.nested) }
+        ensures { Opens clauses (at self.now.descent.source spec.binding_clauses rest.now) result }
+    {
+        let (mut found, after) = self.binding_clause(rest)?;
+        let (others, after) = self.next_binding_clauses(after)?;
+        found.append(others)?;
+        Ok((found, after))
+    }
+}

@@ -1,0 +1,14 @@
+//! Direct and computed constructors of queries: what is read of them, as terms.
+#![tactic(auto)]
+
+mod attributes;
+mod characters;
+mod comments;
+mod computed;
+mod contents;
+mod elements;
+mod markup;
+mod quoted;
+mod run;
+
+pub use markup::Markup;

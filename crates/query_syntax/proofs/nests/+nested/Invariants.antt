@@ -1,0 +1,4 @@
+use Rattle.query_syntax.proofs.nests.+nested.Given as goal
+
+abbrev pub decreases-nested : goal.decreases-nested
+decreases-nested l = l.source.room
