@@ -12,6 +12,7 @@ use Rattle.kernel_session.specs.Sessions.{is_file_fault, FileFaultsCount}
 use Rattle.kernel_session.specs.Steps.{Workspace, IsGiven, IsNotGiven, IsCodeOf, IsNoContent, IsAccepted, IsRefused, Step, IsLineAnswer, IsAnswered}
 use Rattle.tree_model.specs.XmlReads.{XmlReading, as_tree, too_many_bytes, not_utf8, other_encoding, internal_subset, not_well_formed, first_fault, too_many_nodes}
 use Rattle.tree_model.specs.XmlMeaning.{unknown_entity, bad_namespace}
+use Rattle.query_paths.proofs.Codes.{asked_other}
 
 -- the count has risen by so much, or stands at its last value
 abbrev RisenBy : ℕ → ℕ → ℕ → Type 0
@@ -73,7 +74,7 @@ refused_faults options w (create name (Some input)) code w' (inl h) = stays w.fi
 refused_faults options w (create name (Some input)) code w' (inr h) = no_content_faults options.strip input w.files w'.files code h.1
 refused_faults options w (storage range) code w' h = same_faults w w' code (is_other code (codes "XKDB0001") h.1 refl) h.2
 refused_faults options w list code w' h = absurd h
-refused_faults options w (query words) code w' (inl h) = same_faults w w' code (is_other code (codes "XKCM0002") h.1 refl) h.2
+refused_faults options w (query words) code w' (inl h) = same_faults w w' code (asked_other words code h.0) h.1
 refused_faults options w (query words) code w' (inr h) = same_faults w w' code (is_other code (codes "XPDY0002") h.3 refl) h.4
 refused_faults options w (export path name) code w' (inl h) = same_faults w w' code (is_other code (codes "XKDB0001") h.1 refl) h.2
 refused_faults options w (export path name) code w' (inr (inl h)) = same_faults w w' code (is_other code (codes "XKDB0004") h.3 refl) h.4

@@ -1,5 +1,5 @@
 -- What may be answered to a command and to a line, and what they leave.
-use Rattle.std.specs.Prelude.{◌≡◌, ◌≢◌, ◌⊎◌, ℕ, ◌^◌, ◌<◌, ◌≤◌, Bool, true, false, List, [], ◌∷◌, length, codes, option_map, IfSome, IsSomeAnd, Option, Some, None}
+use Rattle.std.specs.Prelude.{◌≡◌, ◌≢◌, ◌⊎◌, ℕ, ◌^◌, ◌<◌, ◌≤◌, Bool, true, false, List, [], ◌∷◌, length, codes, option_map, IfSome, IsSomeAnd, Option, Some, None, Ok, Err}
 use Rattle.std.specs.Str.{IsUtf8}
 use Rattle.outer_io.specs.Outer.{Rose}
 use Rattle.outer_io.specs.Files.{Entry, file_in, with_file, Seen, seen, NoneFell, OthersStay}
@@ -15,7 +15,7 @@ use Rattle.tree_model.specs.States.{State, Base, is_base_name, document_under, n
 use Rattle.kernel_session.specs.declared.command.Options.{Options}
 use Rattle.kernel_session.specs.Commands.{Input, text, file, path_of_input, Form, table, create, storage, list, query, export, exit, not_built, no_form, form_of, trimmed, without_return}
 use Rattle.kernel_session.specs.CommandView.{IsNoCommand}
-use Rattle.query_lexis.specs.Paths.{path_of}
+use Rattle.query_paths.specs.Asked.{asked}
 use Rattle.kernel_session.specs.Replies.{Answer, accepted, refused}
 
 -- what the commands of a script work on: databases, and what is seen of files
@@ -115,9 +115,9 @@ IsAccepted options w (table input) payload w' = (f : Forest Label) × IsContent 
 IsAccepted options w (create name input) payload w' = (base : Base) × IsNewBase options.strip name input w.files w'.files base × (payload ≡ []) × (w'.state ≡ with_new base w.state)
 IsAccepted options w (storage range) payload w' = (base : Base) × IsOpened w.state base × (payload ≡ storage_text range base.documents) × (w' ≡ w)
 IsAccepted options w list payload w' = (payload ≡ list_text w.state.bases) × (w' ≡ w)
--- the nodes that the path leads to from the documents of the open database
+-- the nodes that the query's path leads to from the documents of the open database
 IsAccepted options w (query words) payload w' =
-    (steps : List AxisStep) × (path_of words ≡ Some steps) × (base : Base) × IsOpened w.state base × (payload ≡ answer_text (path_value base.documents steps)) × (w' ≡ w)
+    (steps : List AxisStep) × (asked words ≡ Ok steps) × (base : Base) × IsOpened w.state base × (payload ≡ answer_text (path_value base.documents steps)) × (w' ≡ w)
 IsAccepted options w (export path name) payload w' =
     (base : Base) × IsOpened w.state base × (d : Forest Label) × (document_under path base.documents ≡ Some d) × (payload ≡ []) × (w'.state ≡ w.state) × IsExported name (documents_text d) w.files w'.files
 IsAccepted options w exit payload w' = (payload ≡ []) × (w' ≡ w)
@@ -130,9 +130,9 @@ IsRefused options w (table input) code w' = IsNoContent options.strip input w.fi
 IsRefused options w (create name input) code w' = IsCreateFault options.strip name input w.files w'.files code
 IsRefused options w (storage range) code w' = (w.state.opened ≡ None) × (code ≡ codes "XKDB0001") × (w' ≡ w)
 IsRefused options w list code w' = ⊥
--- a query that isn't read yet; then none open
+-- what is wrong with the query, or that it isn't valued yet; then none open
 IsRefused options w (query words) code w' =
-    ((path_of words ≡ None) × (code ≡ codes "XKCM0002") × (w' ≡ w)) ⊎ ((steps : List AxisStep) × (path_of words ≡ Some steps) × (w.state.opened ≡ None) × (code ≡ codes "XPDY0002") × (w' ≡ w))
+    ((asked words ≡ Err code) × (w' ≡ w)) ⊎ ((steps : List AxisStep) × (asked words ≡ Ok steps) × (w.state.opened ≡ None) × (code ≡ codes "XPDY0002") × (w' ≡ w))
 -- none open; then no such document; then the write
 IsRefused options w (export path name) code w' =
     ((w.state.opened ≡ None) × (code ≡ codes "XKDB0001") × (w' ≡ w))

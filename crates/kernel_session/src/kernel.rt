@@ -31,7 +31,7 @@ use doc_import::Built;
 use doc_store::Database;
 use frame_pool::Meter;
 use outer_io::{FileWrite, Files};
-use query_lexis::read_path;
+use query_paths::read_query;
 use std::alloc::{AllocError, Global};
 use std::marker::Model;
 use tree_model::{Code, Refusal, Text};
@@ -242,10 +242,9 @@ impl Kernel {
         ensures step { (options : Options) (w : Workspace) → w.state ≡ self.now → Step options w (query words.now) (answer_of result) w }
         ensures meter { HasRead meter.old meter.new }
     {
-        let steps = match read_path(alloc, words) {
-            Ok(Some(steps)) => steps,
-            Ok(None) => return Reply::Err(Refusal::Code(Code::XKCM0002)),
-            Err(_e) => return Reply::Err(Refusal::NoMemory),
+        let steps = match read_query(alloc, words) {
+            Ok(steps) => steps,
+            Err(fault) => return Reply::Err(fault),
         };
         let Some(database) = self.database() else {
             return Reply::Err(Refusal::Code(Code::XPDY0002));

@@ -115,7 +115,7 @@ fn paths_are_answered(rt: HostRuntime) -> Result<(), Fail> {
         is_answered(
             &rt,
             b"XQUERY /a\nXQUERY 1\nXQUERY\nCREATE DB d <a><b>x</b><b/>y</a>\nXQUERY /a/b\nXQUERY /a/text()\nxquery  /a/b/text() \nXQUERY //b\nXQUERY /a/\nXQUERY /a b\nXQUERY /z\nXQUERY /a\n",
-            b"err XPDY0002\nerr XKCM0002\nerr XKCM0001\nok 0\n\nok 13\n<b>x</b>\n<b/>\nok 1\ny\nok 1\nx\nok 13\n<b>x</b>\n<b/>\nerr XKCM0002\nerr XKCM0002\nok 0\n\nok 20\n<a><b>x</b><b/>y</a>\n",
+            b"err XPDY0002\nerr XKCM0002\nerr XKCM0001\nok 0\n\nok 13\n<b>x</b>\n<b/>\nok 1\ny\nok 1\nx\nok 13\n<b>x</b>\n<b/>\nerr XPST0003\nerr XPST0003\nok 0\n\nok 20\n<a><b>x</b><b/>y</a>\n",
             1,
         )?
     );
@@ -141,7 +141,7 @@ fn written_paths_are_read(rt: HostRuntime) -> Result<(), Fail> {
         is_answered(
             &rt,
             b"CREATE DB d <r><\xc3\xa9/><a/></r>\nXQUERY r/a\nXQUERY / r (: in (: all :) :) /  a\nXQUERY //\xc3\xa9\nXQUERY r//\nXQUERY (: r\n",
-            b"ok 0\n\nok 4\n<a/>\nok 4\n<a/>\nok 5\n<\xc3\xa9/>\nerr XKCM0002\nerr XKCM0002\n",
+            b"ok 0\n\nok 4\n<a/>\nok 4\n<a/>\nok 5\n<\xc3\xa9/>\nerr XPST0003\nerr XPST0003\n",
             1,
         )?
     );

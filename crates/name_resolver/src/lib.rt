@@ -3,5 +3,7 @@
 
 mod names;
 mod resolver;
+mod terms;
+mod walk;
 
-pub use resolver::resolve;
+pub use walk::resolve;

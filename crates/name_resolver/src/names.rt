@@ -164,7 +164,7 @@ fn binding(binding: &Binding) -> Result<Binding, NoMemory>
 {
     Ok(Binding {
         prefix: binding.prefix.copy()?,
-        uri: binding.uri.copy()?,
+        uri: maybe_text(&binding.uri)?,
     })
 }
 

@@ -64,6 +64,7 @@ fn declared(alloc: Global, attribute: &Attribute) -> Result<Option<Binding>, NoM
     }
     let prefix = declared_prefix(alloc, name)?;
     let uri = quoted_text(alloc, attribute)?;
+    let uri = Some(uri);
     Ok(Some(Binding { prefix, uri }))
 }
 

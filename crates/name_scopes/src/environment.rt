@@ -1,10 +1,11 @@
 // Where a term of a query stands.
-ghost use Rattle.std.specs.Prelude.{◌≡◌, ◌++◌, ◌∷◌, [], ◌&&◌, length, take, IfOk, OnOk};
+ghost use Rattle.std.specs.Prelude.{◌≡◌, ◌++◌, ◌∷◌, [], ◌&&◌, if◌then◌else◌, length, take, IfOk, OnOk, None, Some};
+ghost use Rattle.tree_model.specs.Sound.{is_empty};
 ghost use Rattle.std.specs.List.{list_any};
 ghost use Rattle.std.specs.Str.{bytes_eq};
 ghost use Rattle.tree_model.specs.declared.text.Name as tree_model;
 ghost use Rattle.query_terms.specs.Static as spec;
-ghost use Rattle.name_scopes.specs.Kept.{text_in, with_only, with_variables};
+ghost use Rattle.name_scopes.specs.Kept.{texts_in, with_only, with_variables};
 
 use query_terms::{Binding, Declaration, Variable};
 use std::alloc::Global;
@@ -29,8 +30,7 @@ const INSTANCE_URI: &str = "http://www.w3.org/2001/XMLSchema-instance";
 const LOCAL_URI: &str = "http://www.w3.org/2005/xquery-local-functions";
 
 /// The bindings of prefixes in force, the innermost last, and the names of the variables in scope, with their URIs. Of two
-/// bindings of one prefix the later counts; one to the empty URI takes the prefix away. The empty prefix stands for names of
-/// elements without a prefix.
+/// bindings of one prefix the later counts. The empty prefix stands for names of elements without a prefix.
 #[derive(Drop)]
 pub struct Environment {
     bindings: Vec<Binding>,
@@ -45,15 +45,24 @@ impl Model for Environment {
     ghost view = { λ e. record { bindings = e.bindings.items; variables = e.variables.items } };
 }
 
-// The last binding of a prefix gives its URI.
-#[tactic(auto, unfolding(query_terms::specs::Static::uri_behind))]
+fn uri_in(binding: &Binding) -> Option<&Text>
+    ensures { texts_in result ≡ binding.now.uri }
+{
+    match &binding.uri {
+        Some(uri) => Some(uri),
+        None => None,
+    }
+}
+
+// The last binding of a prefix gives its URI, or takes it away.
+#[tactic(auto, unfolding(query_terms::specs::Static::bound_behind))]
 fn bound_uri<'a>(bindings: &'a [Binding], prefix: &Text) -> Option<&'a Text>
-    ensures { text_in result ≡ spec.uri_of bindings.now prefix.now }
+    ensures { texts_in result ≡ spec.bound_to bindings.now prefix.now }
 {
     let mut uri = None;
     for binding in bindings {
         if binding.prefix == *prefix {
-            uri = Some(&binding.uri);
+            uri = uri_in(binding);
         }
     }
     uri
@@ -72,7 +81,7 @@ fn binding(alloc: Global, prefix: &str, uri: &str) -> Result<Binding, NoMemory>
 {
     Ok(Binding {
         prefix: Text::of(alloc, prefix)?,
-        uri: Text::of(alloc, uri)?,
+        uri: Some(Text::of(alloc, uri)?),
     })
 }
 
@@ -89,13 +98,25 @@ fn predeclared(alloc: Global) -> Result<Vec<Binding>, NoMemory>
     Ok(bindings)
 }
 
+// An empty URI takes the prefix away (XQuery 1.0, section 4.12).
+fn namespace_binding(alloc: Global, prefix: &Text, uri: &Text) -> Result<Binding, NoMemory>
+    ensures { IfOk result (λ b. b ≡ record { prefix = prefix.now; uri = if is_empty uri.now then None else Some uri.now }) }
+{
+    if uri.as_str().is_empty() {
+        Ok(Binding {
+            prefix: prefix.copy()?,
+            uri: None,
+        })
+    } else {
+        binding(alloc, prefix.as_str(), uri.as_str())
+    }
+}
+
 fn declared_binding(alloc: Global, declaration: &Declaration) -> Result<Binding, NoMemory>
     ensures { IfOk result (λ b. b ≡ spec.declared_binding declaration.now) }
 {
     match declaration {
-        Declaration::Namespace { prefix, uri, .. } => {
-            binding(alloc, prefix.as_str(), uri.text.as_str())
-        }
+        Declaration::Namespace { prefix, uri, .. } => namespace_binding(alloc, prefix, &uri.text),
         Declaration::DefaultElement { uri, .. } => binding(alloc, "", uri.text.as_str()),
     }
 }
@@ -139,7 +160,8 @@ impl Environment {
     pub fn is_unbound(&self, name: &Name) -> bool
         ensures { result ≡ spec.is_unbound self.now.bindings name.now }
     {
-        !name.prefix.as_str().is_empty() && self.uri_of(&name.prefix).is_empty()
+        !name.prefix.as_str().is_empty()
+            && bound_uri(self.bindings.as_slice(), &name.prefix).is_none()
     }
 
     /// The URI of a name, where those without a prefix have this one.

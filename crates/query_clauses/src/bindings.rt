@@ -113,7 +113,7 @@ impl<
     {
         let mut found = Items::new(self.descent.alloc);
         let mut after = rest;
-        for _turn in 0..rest.len() {
+        for _turn in 0..rest.len() + 1 {
             match self.next_for_variable(after) {
                 Ok((item, next)) => {
                     found.push(item)?;
@@ -169,7 +169,7 @@ impl<
     {
         let mut found = Items::new(self.descent.alloc);
         let mut after = rest;
-        for _turn in 0..rest.len() {
+        for _turn in 0..rest.len() + 1 {
             match self.next_let_variable(after) {
                 Ok((item, next)) => {
                     found.push(item)?;
@@ -219,7 +219,7 @@ impl<
     {
         let mut found = Items::new(self.descent.alloc);
         let mut after = rest;
-        for _turn in 0..rest.len() {
+        for _turn in 0..rest.len() + 1 {
             match self.binding_clause(after) {
                 Ok((item, next)) => {
                     found.append(item)?;

@@ -144,7 +144,7 @@ impl<
     {
         let mut found = Items::new(self.descent.alloc);
         let mut after = rest;
-        for _turn in 0..rest.len() {
+        for _turn in 0..rest.len() + 1 {
             match self.next_order_key(after) {
                 Ok((item, next)) => {
                     found.push(item)?;

@@ -1,5 +1,5 @@
 -- What a computed processing instruction reads, from what its parts read: a name or an expression for the target, and a body or none.
-use Rattle.std.proofs.Common.{◌≡◌, ℕ, ◌-◌, length, Option, Some, None, Ok, refl}
+use Rattle.std.proofs.Common.{◌≡◌, ◌-◌, length, Option, Some, None, Ok, refl}
 use Rattle.std.specs.Prelude.{codes}
 use Rattle.query_terms.specs.declared.parts.ComputedKind.TheVariants as kinds
 use Rattle.query_terms.specs.declared.tree.Expr.{Expr}

@@ -1,17 +1,15 @@
 -- What the parts of constructors stand for, while they are read.
-use Rattle.std.specs.Prelude.{◌≡◌, ◌≢◌, List, [], Option, Some, None, true, false, Result, Ok, Err}
+use Rattle.std.specs.Prelude.{◌≡◌, ◌≢◌, [], Option, Some, None, true, false, Result, Ok, Err}
 use Rattle.std.specs.String.{string_bytes}
 use denote.Ref.{Bor}
 use Rattle.query_terms.specs.declared.stop.Stop.{Stop}
 use Rattle.query_terms.specs.declared.stop.Stop.TheVariants.{NoMemory}
 use Rattle.query_terms.specs.declared.tree.Expr.{Expr}
 use Rattle.query_terms.specs.declared.tree.Attribute.{Attribute}
-use Rattle.query_terms.specs.declared.tree.Content.{Content}
 use Rattle.query_terms.specs.declared.tree.Content.TheVariants as parts
-use Rattle.query_terms.specs.Rule.{Text, Value, absent, both, list, chunk, text, name, term, attribute, attributes, content, contents, Outcome}
+use Rattle.query_terms.specs.Rule.{Text, Value, absent, both, list, chunk, text, term, attribute, content, contents, Outcome}
 use Rattle.query_terms.specs.Markup.{Run as Piled, run_of, closed, a_solid, a_plain}
-use Rattle.query_tokens.specs.Reads.{as_char, as_name, name_written}
-use Rattle.query_tokens.specs.declared.written.WrittenName.{WrittenName}
+use Rattle.query_tokens.specs.Reads.{as_char, as_name}
 use Rattle.query_constructors.specs.declared.run.Piece.{Piece}
 use Rattle.query_constructors.specs.declared.run.Piece.TheVariants as pieces
 use Rattle.query_constructors.specs.declared.run.Run.{Run}

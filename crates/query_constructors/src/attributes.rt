@@ -83,7 +83,7 @@ impl<'a, F: Fn(Global, Source<'a>, Nest, &'a str) -> Result<(Boxed<Expr>, &'a st
     {
         let mut found = Items::new(self.descent.alloc);
         let mut after = rest;
-        for _turn in 0..rest.len() {
+        for _turn in 0..rest.len() + 1 {
             match self.spaced_attribute(after) {
                 Ok((item, next)) => {
                     push_present(&mut found, item)?;

@@ -18,7 +18,7 @@ impl<'a, F> Markup<'a, F> {
     {
         let mut text = String::new(self.descent.alloc);
         let mut after = rest;
-        for _turn in 0..rest.len() {
+        for _turn in 0..rest.len() + 1 {
             let Some((found, next)) = self.descent.source.char_before(after, stop) else {
                 return Ok((text, after));
             };

@@ -95,7 +95,7 @@ impl<'a, F: Fn(Global, Source<'a>, Nest, &'a str) -> Result<(Boxed<Expr>, &'a st
     {
         let mut run = Run::new(self.descent.alloc);
         let mut after = rest;
-        for _turn in 0..rest.len() {
+        for _turn in 0..rest.len() + 1 {
             match self.quoted_piece(after, quote) {
                 Ok((piece, next)) => {
                     run.add(self.descent.alloc, piece)?;

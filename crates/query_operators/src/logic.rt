@@ -73,7 +73,7 @@ impl<
     {
         let mut found = Items::new(self.paths.markup.descent.alloc);
         let mut after = rest;
-        for _turn in 0..rest.len() {
+        for _turn in 0..rest.len() + 1 {
             match self.next_comparison(after) {
                 Ok((item, next)) => {
                     found.push(item.into_inner())?;
@@ -117,7 +117,7 @@ impl<
     {
         let mut found = Items::new(self.paths.markup.descent.alloc);
         let mut after = rest;
-        for _turn in 0..rest.len() {
+        for _turn in 0..rest.len() + 1 {
             match self.next_and(after) {
                 Ok((item, next)) => {
                     found.push(item.into_inner())?;

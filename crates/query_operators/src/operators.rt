@@ -84,7 +84,7 @@ impl<
     {
         let mut found = Items::new(self.paths.markup.descent.alloc);
         let mut after = rest;
-        for _turn in 0..rest.len() {
+        for _turn in 0..rest.len() + 1 {
             match self.next_unary(after) {
                 Ok((item, next)) => {
                     found.push(item)?;
@@ -129,7 +129,7 @@ impl<
     {
         let mut found = Items::new(self.paths.markup.descent.alloc);
         let mut after = rest;
-        for _turn in 0..rest.len() {
+        for _turn in 0..rest.len() + 1 {
             match self.next_intersection(after) {
                 Ok((item, next)) => {
                     found.push(item.into_inner())?;

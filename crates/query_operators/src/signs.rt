@@ -49,7 +49,7 @@ fn signs<'a>(source: &Source<'a>, rest: &'a str) -> (Option<bool>, &'a str)
 {
     let mut found = None;
     let mut after = rest;
-    for _turn in 0..rest.len() {
+    for _turn in 0..rest.len() + 1 {
         let Some((is_minus, next)) = sign(source, after) else {
             return (found, after);
         };

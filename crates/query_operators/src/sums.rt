@@ -78,7 +78,7 @@ impl<
     {
         let mut found = Items::new(self.paths.markup.descent.alloc);
         let mut after = rest;
-        for _turn in 0..rest.len() {
+        for _turn in 0..rest.len() + 1 {
             match self.next_union(after) {
                 Ok((item, next)) => {
                     found.push(item)?;
@@ -126,7 +126,7 @@ impl<
     {
         let mut found = Items::new(self.paths.markup.descent.alloc);
         let mut after = rest;
-        for _turn in 0..rest.len() {
+        for _turn in 0..rest.len() + 1 {
             match self.next_multiplicative(after) {
                 Ok((item, next)) => {
                     found.push(item)?;

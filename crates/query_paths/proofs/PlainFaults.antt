@@ -22,7 +22,7 @@ use Rattle.query_terms.specs.declared.tree.Operand.{Operand}
 use Rattle.query_terms.specs.declared.tree.OrderKey.{OrderKey}
 use Rattle.query_terms.specs.declared.tree.PathStep.{PathStep}
 use Rattle.query_terms.specs.Rule.{Text}
-use Rattle.query_terms.specs.Static.{Environment, Fault, Meaning, ClauseMeaning, ContentMeaning, AttributeMeaning, in_attribute, in_clause, in_content, in_expression, in_key, in_operand, in_step, faults, clause, content, attribute, operand, key, step, fault, fault_if, is_unbound, uri_of, name_faults, literal_faults, test_faults, many, all, is_before, lesser, least_of, outermost, prolog_faults, query_faults, first_fault}
+use Rattle.query_terms.specs.Static.{Environment, Fault, Meaning, ClauseMeaning, ContentMeaning, AttributeMeaning, in_attribute, in_clause, in_content, in_expression, in_key, in_operand, in_step, faults, clause, content, attribute, operand, key, step, fault, fault_if, is_unbound, is_none, bound_to, name_faults, literal_faults, test_faults, many, all, is_before, lesser, least_of, outermost, prolog_faults, query_faults, first_fault}
 use Rattle.query_paths.specs.Paths.{plain_name, test_of, element_named, attribute_named, principal_named, step_by, step_of, with_step, behind, is_below, steps_by, steps_of, undeclared, path_in}
 use Rattle.query_paths.proofs.Nothing.{none_behind}
 
@@ -44,7 +44,7 @@ plain_faults : (q : QName) (make : Text → Test) (t : Test) (env : Environment)
 unfolding name_faults is_unbound
 plain_faults q make t env e = by (is_empty q.name.prefix) e where
   by : (b : Bool) → option_map make (cond b (Some q.name.local) None) ≡ Some t
-      → fault_if (not b && is_empty (uri_of env.bindings q.name.prefix)) (fault q.span.from 5 (codes "XPST0081")) ≡ []
+      → fault_if (not b && is_none (bound_to env.bindings q.name.prefix)) (fault q.span.from 5 (codes "XPST0081")) ≡ []
   by true e = refl
   by false e = absurd (cc)
 

@@ -1,28 +1,94 @@
-// The step of a path that is made by hand.
-use crate::path_in;
-use query_terms::{Expr, NodeTest, Query, Span};
-use sqlite_items::{Boxed, Items};
+// Tables of texts with their first fault, and what is answered for them.
+use crate::good_texts::GOOD;
+use crate::read_query;
+use crate::texts::{FAULTS, NO_QUERIES};
+use query_syntax::parse;
+use query_terms::{Query, SyntaxFault};
+use static_rules::check;
+use std::alloc::Global;
 use std::process::Abort;
 use std::rt::HostRuntime;
 use std::test::Fail;
-use tree_model::Axis;
+use tree_model::{Refusal, code_text};
+
+fn refused_as(refusal: Refusal) -> &'static str {
+    match refusal {
+        Refusal::Code(code) => code_text(code),
+        Refusal::NoMemory => "no memory",
+    }
+}
+
+fn first_fault(alloc: Global, query: Query) -> &'static str {
+    let refusal = match check(alloc, query) {
+        Ok(_) => return "ok",
+        Err(refusal) => refusal,
+    };
+    refused_as(refusal)
+}
+
+fn outcome(alloc: Global, text: &str) -> &'static str {
+    let query = match parse(alloc, text) {
+        Ok(query) => query,
+        Err(SyntaxFault::NoReading) => return "XPST0003",
+        Err(SyntaxFault::TooDeep) => return "XKLM0004",
+        Err(SyntaxFault::NoMemory) => return "no memory",
+    };
+    first_fault(alloc, query)
+}
+
+fn asked(alloc: Global, text: &str) -> &'static str {
+    let refusal = match read_query(alloc, text) {
+        Ok(_) => return "ok",
+        Err(refusal) => refusal,
+    };
+    refused_as(refusal)
+}
+
+// Whether each text has this outcome.
+fn all_have(alloc: Global, texts: &[&'static str], wanted: &str) -> bool {
+    for text in texts {
+        if outcome(alloc, text) != wanted {
+            return false;
+        }
+    }
+    true
+}
+
+fn each_has(alloc: Global, texts: &[(&'static str, &'static str)]) -> bool {
+    for entry in texts {
+        let (text, wanted) = *entry;
+        if outcome(alloc, text) != wanted {
+            return false;
+        }
+    }
+    true
+}
 
 #[test]
-fn a_step_is_a_path(rt: HostRuntime) -> Result<(), Fail> {
+fn texts_without_a_reading(rt: HostRuntime) -> Result<(), Fail> {
+    assert!(rt; all_have(rt.alloc(), &NO_QUERIES, "XPST0003"));
+    Ok(())
+}
+
+#[test]
+fn queries_without_a_fault(rt: HostRuntime) -> Result<(), Fail> {
+    assert!(rt; all_have(rt.alloc(), &GOOD, "ok"));
+    Ok(())
+}
+
+#[test]
+fn queries_with_their_first_fault(rt: HostRuntime) -> Result<(), Fail> {
+    assert!(rt; each_has(rt.alloc(), &FAULTS));
+    Ok(())
+}
+
+#[test]
+fn queries_are_paths_or_not_valued_yet(rt: HostRuntime) -> Result<(), Fail> {
     let alloc = rt.alloc();
-    let term = Expr::AxisStep {
-        span: Span { from: 0, to: 6 },
-        axis: Axis::Child,
-        test: NodeTest::Text,
-    };
-    let body = Boxed::new(alloc, term)?;
-    let query = Query {
-        declarations: Items::new(alloc),
-        body,
-    };
-    match path_in(alloc, &query)? {
-        Some(steps) => assert_eq!(rt; steps.len(), 1),
-        None => return Err(Fail::from("no path")),
-    }
+    assert_eq!(rt; asked(alloc, "/a//b/@c"), "ok");
+    assert_eq!(rt; asked(alloc, "/a[1]"), "XKCM0002");
+    assert_eq!(rt; asked(alloc, "$x"), "XKCM0002");
+    assert_eq!(rt; asked(alloc, "/a["), "XPST0003");
+    assert_eq!(rt; asked(alloc, "/processing-instruction('&#0;')"), "XQST0090");
     Ok(())
 }

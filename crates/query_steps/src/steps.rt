@@ -58,7 +58,7 @@ impl<
     {
         let mut found = Items::new(self.markup.descent.alloc);
         let mut after = rest;
-        for _turn in 0..rest.len() {
+        for _turn in 0..rest.len() + 1 {
             match self.predicate(after) {
                 Ok((item, next)) => {
                     found.push(item.into_inner())?;
@@ -144,7 +144,7 @@ impl<
     {
         let mut found = Items::new(self.markup.descent.alloc);
         let mut after = rest;
-        for _turn in 0..rest.len() {
+        for _turn in 0..rest.len() + 1 {
             match self.next_step(after) {
                 Ok((item, next)) => {
                     found.push(item)?;

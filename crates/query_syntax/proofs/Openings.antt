@@ -1,6 +1,5 @@
 -- Opening a nest, by how many more may be opened.
-use Rattle.std.proofs.Common.{◌≡◌, ℕ, zero, suc, length, Err, ap}
-use denote.Ref.{Bor}
+use Rattle.std.proofs.Common.{◌≡◌, ℕ, suc, length, Err, ap}
 use Rattle.query_terms.specs.declared.stop.Nest.{Nest}
 use Rattle.query_terms.specs.declared.stop.Stop.TheVariants.{TooDeep}
 use Rattle.query_terms.specs.Rule.{Text, call, nested}

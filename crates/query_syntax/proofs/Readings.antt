@@ -1,7 +1,6 @@
 -- What is read of a whole text.
 use Rattle.std.proofs.Common.{◌≡◌, ◌≢◌, ℕ, Bool, true, false, List, length, take, nat_eq, refl, ap, sym, ◌∙◌, subst, Ok, Err}
 use Rattle.std.specs.Prelude.{Result}
-use denote.Ref.{Bor}
 use Rattle.std.specs.Str.{IsUtf8, chars}
 use Rattle.std.proofs.lemmas.List.{length-take-le}
 use Rattle.query_terms.specs.declared.stop.Stop.{Stop}

@@ -6,3 +6,6 @@ mod prolog;
 mod reading;
 
 pub use reading::parse;
+
+#[cfg(test)]
+mod tests;

@@ -95,7 +95,7 @@ fn declarations<'a>(
 {
     let mut found = Items::new(alloc);
     let mut after = rest;
-    for _turn in 0..rest.len() {
+    for _turn in 0..rest.len() + 1 {
         match declaration(alloc, source, after) {
             Ok((item, next)) => {
                 found.push(item)?;

@@ -144,7 +144,7 @@ abbrev pub passing : (ℕ → Bool) → Option (ℕ × Text) → Outcome
 passing p None = Err Refused
 passing p (Some x) = if p x.0 then Ok (code x.0, x.1) else Err Refused
 
--- a repetition goes on as often as it fits. Each turn takes a byte at least, so the length bounds the turns
+-- a repetition goes on as often as it fits, and is tried at the end of the text too. Each turn that fits takes a byte at least, so the length bounds the turns
 abbrev pub turn : (Value → Text → Outcome) → Value → Text → Outcome → Outcome
 turn f v s (Ok x) = f (more v x.0) x.1
 turn f v s (Err Refused) = Ok (v, s)
@@ -165,7 +165,7 @@ fits total knots any s = any_at s
 fits total knots (char p) s = passing p (first s)
 fits total knots (seq a b) s = and_then (fits total knots a s) (λ x. and_then (fits total knots b x.1) (λ y. Ok (join x.0 y.0, y.1)))
 fits total knots (alt a b) s = or_else (fits total knots a s) (fits total knots b s)
-fits total knots (many r) s = and_then (turns (length s) (fits total knots r) empty s) listed
+fits total knots (many r) s = and_then (turns (suc (length s)) (fits total knots r) empty s) listed
 fits total knots (opt r) s = or_else (fits total knots r s) (Ok (absent, s))
 fits total knots (not r) s = unless (fits total knots r s) s
 fits total knots (node f r) s = and_then (fits total knots r s) (λ x. Ok (f (total - length s) (total - length x.1) x.0, x.1))

@@ -55,16 +55,28 @@ least_of = fold lesser
 
 -- ---- names
 
--- the URI that a prefix is bound to: that of its last binding, and empty where it has none
-unfoldable pub uri_behind : Text → List Binding → Text → Text
-uri_behind uri [] prefix = uri
-uri_behind uri (b ∷ more) prefix = uri_behind (if bytes_eq b.prefix prefix then b.uri else uri) more prefix
+-- what a prefix is bound to by the last of its bindings, which may take it away
+unfoldable pub bound_behind : Option Text → List Binding → Text → Option Text
+bound_behind found [] prefix = found
+bound_behind found (b ∷ more) prefix = bound_behind (if bytes_eq b.prefix prefix then b.uri else found) more prefix
 
+abbrev pub bound_to : List Binding → Text → Option Text
+bound_to bindings prefix = bound_behind None bindings prefix
+
+abbrev pub or_empty : Option Text → Text
+or_empty None = []
+or_empty (Some uri) = uri
+
+-- the URI of a prefix, empty where it is unbound
 abbrev pub uri_of : List Binding → Text → Text
-uri_of bindings prefix = uri_behind [] bindings prefix
+uri_of bindings prefix = or_empty (bound_to bindings prefix)
+
+abbrev pub is_none : Option Text → Bool
+is_none None = true
+is_none (Some uri) = false
 
 unfoldable pub is_unbound : List Binding → Name → Bool
-is_unbound bindings n = not (is_empty n.prefix) && is_empty (uri_of bindings n.prefix)
+is_unbound bindings n = not (is_empty n.prefix) && is_none (bound_to bindings n.prefix)
 
 -- the URI of a name, where names without a prefix have this one
 unfoldable pub uri_or : Text → List Binding → Name → Text
@@ -89,7 +101,7 @@ pub record Environment : Type 0 where
   pub variables : List Name
 
 abbrev pub binding : Text → Text → Binding
-binding prefix uri = record { prefix = prefix; uri = uri }
+binding prefix uri = record { prefix = prefix; uri = Some uri }
 
 abbrev pub xml_uri : Text
 xml_uri = codes "http://www.w3.org/XML/1998/namespace"
@@ -430,7 +442,7 @@ prolog_faults earlier [] = []
 prolog_faults earlier (d ∷ more) = declaration_faults earlier d ++ prolog_faults (earlier ++ d ∷ []) more
 
 abbrev pub declared_binding : Declaration → Binding
-declared_binding (declarations.Namespace span prefix uri) = binding prefix uri.text
+declared_binding (declarations.Namespace span prefix uri) = record { prefix = prefix; uri = if is_empty uri.text then None else Some uri.text }
 declared_binding (declarations.DefaultElement span uri) = binding [] uri.text
 
 unfoldable pub prolog_bindings : List Declaration → List Binding

@@ -6,8 +6,8 @@ mod stop;
 mod tree;
 
 pub use parts::{
-    Binding, Comparator, ComputedKind, UnnamedKind, Literal, NodeTest, Operator, PathStart, Place,
-    QName, Quantifier, Scope, Span, Variable,
+    Binding, Comparator, ComputedKind, Literal, NodeTest, Operator, PathStart, Place, QName,
+    Quantifier, Scope, Span, UnnamedKind, Variable,
 };
 pub use stop::{Nest, Stop, SyntaxFault};
 pub use tree::{Attribute, Clause, Content, Declaration, Expr, Operand, OrderKey, PathStep, Query};

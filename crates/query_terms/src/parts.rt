@@ -32,15 +32,16 @@ pub struct Variable {
     pub name: QName,
 }
 
-/// A prefix and the URI that it is bound to. The empty prefix stands for names of elements without a prefix.
+/// A prefix and the URI that it is bound to, `None` where the prefix is taken away. The empty prefix stands for names of
+/// elements without a prefix.
 #[derive(Debug, Drop)]
 pub struct Binding {
     pub prefix: Text,
-    pub uri: Text,
+    pub uri: Option<Text>,
 }
 
 /// The namespaces that are in force at a place of the query, the innermost last. Of two bindings of one prefix the later
-/// counts; one to the empty URI takes the prefix away.
+/// counts.
 #[derive(Debug, Drop)]
 pub struct Scope {
     pub bindings: Items<Binding>,

@@ -1,8 +1,8 @@
 // The tree of a query: one variant for each production that stands for itself.
 
 use crate::parts::{
-    Comparator, ComputedKind, UnnamedKind, Literal, NodeTest, Operator, PathStart, Place, QName,
-    Quantifier, Scope, Span, Variable,
+    Comparator, ComputedKind, Literal, NodeTest, Operator, PathStart, Place, QName, Quantifier,
+    Scope, Span, UnnamedKind, Variable,
 };
 use sqlite_items::{Boxed, Items};
 use tree_model::{Axis, Text};

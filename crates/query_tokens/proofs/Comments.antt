@@ -33,7 +33,7 @@ inside f (suc m) u = past_piece (inside f m) u (f u)
 -- what stands behind a comment
 unfoldable pub behind_comment : ℕ → Text → Option Text
 behind_comment zero s = None
-behind_comment (suc n) s = if opens s then inside (behind_comment n) (length (drop 2 s)) (drop 2 s) else None
+behind_comment (suc n) s = if opens s then inside (behind_comment n) (suc (length (drop 2 s))) (drop 2 s) else None
 
 abbrev pub of_rest : Option Text → Outcome
 of_rest None = Err Refused
@@ -86,8 +86,8 @@ unfolding comments comment_rule behind_comment word_at
 comments_are zero s = refl
 comments_are (suc n) s = by (opens s) (comments_are n) where
   by : (b : Bool) → ((t : Text) → comments n t ≡ of_rest (behind_comment n t)) → and_then (and_then (cond {A = Outcome} b (Ok (nothing, drop 2 s)) (Err Refused)) (λ x. and_then
-      (and_then (and_then (turns (length x.1) (piece n) empty x.1) listed) (λ a. and_then (word_at (codes ":)") a.1) (λ y. Ok (join a.0 y.0, y.1))))
+      (and_then (and_then (turns (suc (length x.1)) (piece n) empty x.1) listed) (λ a. and_then (word_at (codes ":)") a.1) (λ y. Ok (join a.0 y.0, y.1))))
       (λ y. Ok (join x.0 y.0, y.1)))) (λ z. Ok (nothing, z.1))
-      ≡ of_rest (cond b (inside (behind_comment n) (length (drop 2 s)) (drop 2 s)) None)
-  by true same = inside_is n same (length (drop 2 s)) empty (drop 2 s)
+      ≡ of_rest (cond b (inside (behind_comment n) (suc (length (drop 2 s))) (drop 2 s)) None)
+  by true same = inside_is n same (suc (length (drop 2 s))) empty (drop 2 s)
   by false same = refl

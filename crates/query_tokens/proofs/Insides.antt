@@ -73,8 +73,8 @@ pub behind_ends : (n : ℕ) → Ends (behind_comment n)
 unfolding behind_comment
 behind_ends zero s t e = absurd (cc)
 behind_ends (suc n) s t e = by (behind_ends n) (opens s) e where
-  by : Ends (behind_comment n) → (b : Bool) → cond {A = Option Text} b (inside (behind_comment n) (length (drop 2 s)) (drop 2 s)) None ≡ Some t → EndsAt s t
-  by ends true e = ends_in_rest s t (inside_ends (behind_comment n) ends (length (drop 2 s)) (drop 2 s) t e)
+  by : Ends (behind_comment n) → (b : Bool) → cond {A = Option Text} b (inside (behind_comment n) (suc (length (drop 2 s))) (drop 2 s)) None ≡ Some t → EndsAt s t
+  by ends true e = ends_in_rest s t (inside_ends (behind_comment n) ends (suc (length (drop 2 s))) (drop 2 s) t e)
   by ends false e = absurd (cc)
 
 -- ---- the bounds
@@ -121,13 +121,13 @@ behind_same (suc m) zero [] a b = refl
 behind_same (suc m) zero (c ∷ s) a b = absurd (omega arith)
 behind_same (suc m) (suc n) [] a b = refl
 behind_same (suc m) (suc n) (c ∷ []) a b = by (opens (c ∷ [])) where
-  by : (e : Bool) → cond e (inside (behind_comment m) 0 []) None ≡ cond e (inside (behind_comment n) 0 []) None
-  by true = none_inside (behind_comment m) (behind_ends m) 0 ∙ sym (none_inside (behind_comment n) (behind_ends n) 0)
+  by : (e : Bool) → cond e (inside (behind_comment m) 1 []) None ≡ cond e (inside (behind_comment n) 1 []) None
+  by true = none_inside (behind_comment m) (behind_ends m) 1 ∙ sym (none_inside (behind_comment n) (behind_ends n) 1)
   by false = refl
 behind_same (suc m) (suc n) (c ∷ d ∷ s) a b =
     ap (λ (r : Option Text). if opens (c ∷ d ∷ s) then r else None)
     (inside_same (behind_comment m) (behind_comment n) (length s) (λ t h. behind_same m n t (omega arith) (omega arith)) (behind_ends m) (behind_ends n)
-    (length s) (length s) s (omega arith) (omega arith) (omega arith))
+    (suc (length s)) (suc (length s)) s (omega arith) (omega arith) (omega arith))
 
 -- ---- what stands behind the comment of which this is the inside
 
@@ -161,4 +161,4 @@ outside_step c s = by (behind_comment (suc (length s)) (c ∷ s)) refl where
 
 pub comment_outside : (c : ℕ) (d : ℕ) (s : Text) → behind_comment (suc (length (d ∷ s))) (c ∷ d ∷ s) ≡ (if opens (c ∷ d ∷ s) then outside s else None)
 unfolding behind_comment
-comment_outside c d s = ap (λ (r : Option Text). if opens (c ∷ d ∷ s) then r else None) (inside_outside (length (d ∷ s)) (length s) s (omega arith) (omega arith))
+comment_outside c d s = ap (λ (r : Option Text). if opens (c ∷ d ∷ s) then r else None) (inside_outside (length (d ∷ s)) (suc (length s)) s (omega arith) (omega arith))

@@ -81,8 +81,8 @@ module _ (P : Text → Type 0) (rests : HasRests P) where
     fits_keeps (alt a b) s t v p e =
         elim (else_ok (fits total knots a s) (fits total knots b s) (v, t) e) [ inl h ↦ fits_keeps a s t v p h | inr h ↦ fits_keeps b s t v p h ]
     fits_keeps (many a) s t v p e =
-        let x = then_ok (turns (length s) (fits total knots a) empty s) _ _ e in
-        kept _ _ x.0.1 t (turns_keep (fits total knots a) (fits_keeps a) (length s) empty s x.0.1 x.0.0 p x.1) x.2
+        let x = then_ok (turns (suc (length s)) (fits total knots a) empty s) _ _ e in
+        kept _ _ x.0.1 t (turns_keep (fits total knots a) (fits_keeps a) (suc (length s)) empty s x.0.1 x.0.0 p x.1) x.2
     fits_keeps (opt a) s t v p e =
         elim (else_ok (fits total knots a s) (Ok (absent, s)) (v, t) e) [ inl h ↦ fits_keeps a s t v p h | inr h ↦ kept absent v s t p h ]
     fits_keeps (not a) s t v p e = unless_keeps (fits total knots a s) s t v p e
@@ -120,7 +120,7 @@ module _ (P : Text → Type 0) (rests : HasRests P) (total : ℕ) (knots others 
       (λ x is. ap (λ (o : Outcome). and_then o (λ y. Ok (join x.0 y.0, y.1))) (fits_agree b x.1 (fits_keeps P rests total knots keeps a s x.1 x.0 h is)))
   fits_agree (alt a b) s h = ap (λ (o : Outcome). or_else o (fits total knots b s)) (fits_agree a s h) ∙ ap (λ (o : Outcome). or_else (fits total others a s) o) (fits_agree b s h)
   fits_agree (many a) s h = ap (λ (o : Outcome). and_then o listed)
-      (turns_agree (fits total knots a) (fits total others a) (fits_keeps P rests total knots keeps a) (fits_agree a) (length s) empty s h)
+      (turns_agree (fits total knots a) (fits total others a) (fits_keeps P rests total knots keeps a) (fits_agree a) (suc (length s)) empty s h)
   fits_agree (opt a) s h = ap (λ (o : Outcome). or_else o (Ok (absent, s))) (fits_agree a s h)
   fits_agree (not a) s h = ap (λ (o : Outcome). unless o s) (fits_agree a s h)
   fits_agree (node f a) s h = ap (λ (o : Outcome). and_then o (λ x. Ok (f (total - length s) (total - length x.1) x.0, x.1))) (fits_agree a s h)

@@ -7,12 +7,12 @@ use Rattle.query_terms.specs.declared.stop.Stop.TheVariants.{Refused, TooDeep, N
 -- a repetition of what `item` reads, begun at `rest`, stands at `after`, and what it has read comes to `found`
 pub record Loop {A : Type 0} (f : Value → A) (item : Text → Outcome) (rest : Text) (left : ℕ) (after : Text) (found : A) : Type 0 where
   pub value : Value
-  pub stands : turns (length rest) item empty rest ≡ turns left item value after
+  pub stands : turns (suc (length rest)) item empty rest ≡ turns left item value after
   pub comes_to : f value ≡ found
 
 -- what `many` reads there
 abbrev pub all_of : (Text → Outcome) → Text → Outcome
-all_of item rest = and_then (turns (length rest) item empty rest) listed
+all_of item rest = and_then (turns (suc (length rest)) item empty rest) listed
 
 -- the repetition was read to its end
 abbrev pub Whole : {A : Type 0} → (Value → A) → (Text → Outcome) → Text → Text → A → Type 0
@@ -24,9 +24,9 @@ silent o = and_then o (λ x. Ok (nothing, x.1))
 abbrev pub whatever : Value → Unit {0}
 whatever v = tt
 
-pub begun : {A : Type 0} (f : Value → A) (item : Text → Outcome) (rest : Text) (found : A) → f empty ≡ found → Loop f item rest (length rest - 0) rest found
+pub begun : {A : Type 0} (f : Value → A) (item : Text → Outcome) (rest : Text) (found : A) → f empty ≡ found → Loop f item rest (length rest + 1 - 0) rest found
 begun f item rest found e =
-    let n : length rest ≡ length rest - 0 = omega arith in
+    let n : suc (length rest) ≡ length rest + 1 - 0 = omega arith in
     record { value = empty; stands = ap (λ (m : ℕ). turns m item empty rest) n; comes_to = e }
 
 pub went_on : {A : Type 0} {f : Value → A} {item : Text → Outcome} {rest after : Text} {found : A} (n i : ℕ) (w : Value) (next : Text) (later : A)

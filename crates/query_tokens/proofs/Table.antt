@@ -57,7 +57,7 @@ pub outside_one : (c : ℕ) → outside (c ∷ []) ≡ outside []
 unfolding behind_comment
 outside_one c =
     outside_step c []
-    ∙ ap (λ (b : Bool). past_piece outside (c ∷ []) (cond b (inside (behind_comment 0) 0 []) None)) (one_never_opens c)
+    ∙ ap (λ (b : Bool). past_piece outside (c ∷ []) (cond b (inside (behind_comment 0) 1 []) None)) (one_never_opens c)
     ∙ ap (λ (b : Bool). cond b (Some []) (outside [])) (one_never_closes c)
 
 -- one piece, by the two tests
@@ -148,7 +148,7 @@ unfolding word_at behind_comment
 table_reads entries [] right = refl
 table_reads entries (c ∷ []) right =
     ap (λ (b : Bool). and_then (cond {A = Outcome} b (Ok (nothing, [])) (Err Refused)) (λ x. closed (slice_index entries (length x.1)) x.1)) (one_never_opens c)
-    ∙ sym (ap (λ (b : Bool). of_rest (cond b (inside (behind_comment 0) 0 []) None)) (one_never_opens c))
+    ∙ sym (ap (λ (b : Bool). of_rest (cond b (inside (behind_comment 0) 1 []) None)) (one_never_opens c))
 table_reads entries (c ∷ d ∷ u) right = by (opens (c ∷ d ∷ u)) ∙ sym (ap of_rest (comment_outside c d u)) where
   by : (b : Bool) → and_then (cond {A = Outcome} b (Ok (nothing, u)) (Err Refused)) (λ x. closed (slice_index entries (length x.1)) x.1) ≡ of_rest (cond b (outside u) None)
   by true = ap (λ (k : ℕ). closed k u) (right u (2, refl)) ∙ closed_right u (outside u) refl
@@ -185,4 +185,4 @@ none_right text lacks n = by (drop n text) (never_opens text lacks n) ∙ sym (c
   by [] e = refl
   by (c ∷ s) e =
       ap (λ (b : Bool). and_then (cond {A = Outcome} b (Ok (nothing, drop 2 (c ∷ s))) (Err Refused)) (λ x. closed (slice_index [] (length x.1)) x.1)) e
-      ∙ sym (ap (λ (b : Bool). of_rest (cond b (inside (behind_comment (length s)) (length (drop 2 (c ∷ s))) (drop 2 (c ∷ s))) None)) e)
+      ∙ sym (ap (λ (b : Bool). of_rest (cond b (inside (behind_comment (length s)) (suc (length (drop 2 (c ∷ s)))) (drop 2 (c ∷ s))) None)) e)

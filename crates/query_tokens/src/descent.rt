@@ -111,7 +111,7 @@ impl<'a, F: Fn(Global, Source<'a>, Nest, &'a str) -> Result<(Boxed<Expr>, &'a st
     {
         let mut found = Items::new(self.alloc);
         let mut after = rest;
-        for _turn in 0..rest.len() {
+        for _turn in 0..rest.len() + 1 {
             match self.next_single(after) {
                 Ok((item, next)) => {
                     found.push(item.into_inner())?;

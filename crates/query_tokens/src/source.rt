@@ -110,7 +110,7 @@ impl<'a> Source<'a> {
         ensures { at self.now (spec.run (in_class class)) rest.now ≡ Ok (nothing, result.now) }
     {
         let mut after = rest;
-        for _turn in 0..rest.len() {
+        for _turn in 0..rest.len() + 1 {
             let Some((_, next)) = self.one(after, class) else {
                 return after;
             };
@@ -168,7 +168,7 @@ impl<'a> Source<'a> {
         ensures { at self.now spec.blanks rest.now ≡ Ok (nothing, result.now) }
     {
         let mut after = rest;
-        for _turn in 0..rest.len() {
+        for _turn in 0..rest.len() + 1 {
             let Some(next) = self.blank(after) else {
                 return after;
             };

@@ -76,7 +76,7 @@ impl<'a> Source<'a> {
         let mut text = String::new(alloc);
         let mut bad = None;
         let mut after = body;
-        for _turn in 0..body.len() {
+        for _turn in 0..body.len() + 1 {
             let Some((found, next)) = self.string_char(after, quote) else {
                 return Ok((text, bad));
             };

@@ -143,7 +143,7 @@ impl<'a> Source<'a> {
         ensures { (v : Value) × (at self.now (many (spec.string_char (quote_code quote))) body.now ≡ Ok (list v, result.now)) }
     {
         let mut after = body;
-        for _turn in 0..body.len() {
+        for _turn in 0..body.len() + 1 {
             let Some((_, next)) = self.string_char(after, quote) else {
                 return after;
             };

@@ -7,10 +7,10 @@ use Rattle.query_terms.specs.Static.{first_fault}
 use Rattle.query_terms.specs.Resolved.{resolved_query}
 use Rattle.query_terms.specs.Updating.{is_updating_query}
 use Rattle.static_rules.specs.Found.{HasCode}
-use Rattle.static_rules.specs.declared.verdict.Checked.{Checked}
+use Rattle.static_rules.specs.Verdict.{Verdict}
 
 -- the query with its names resolved, exactly where it has no fault, and else the code of its first fault. Want of memory says nothing
-abbrev pub Checks : Query → Result Checked Refusal → Type 0
+abbrev pub Checks : Query → Result Verdict Refusal → Type 0
 Checks q (Ok c) = (first_fault q ≡ None) × (c.query ≡ resolved_query q) × (c.is_updating ≡ is_updating_query q)
 Checks q (Err (Code code)) = HasCode (first_fault q) code
 Checks q (Err NoMemory) = Unit {0}

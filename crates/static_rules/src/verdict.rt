@@ -15,6 +15,7 @@ use name_scopes::{Environment, MAX_DEPTH};
 use query_terms::Query;
 use sqlite_items::Boxed;
 use std::alloc::Global;
+use std::marker::Model;
 use tree_model::{NoMemory, Refusal};
 
 /// A query without a static fault. Its names have their URIs.
@@ -22,6 +23,18 @@ use tree_model::{NoMemory, Refusal};
 pub struct Checked {
     query: Query,
     is_updating: bool,
+}
+
+impl Model for Checked {
+    ghost use Rattle.std.specs.Coded.{codes};
+    ghost use Rattle.query_terms.specs.contracts.tree.Query.{the_row as row_of_queries};
+    ghost use Rattle.static_rules.specs.Verdict.{Verdict};
+
+    ghost coded = { Prim.hlevel (codes, row_of_queries.coded) };
+
+    ghost Value = { Verdict };
+
+    ghost view = { λ c. record { query = c.query; is_updating = c.is_updating } };
 }
 
 impl Checked {

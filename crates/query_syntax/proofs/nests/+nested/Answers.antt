@@ -1,4 +1,4 @@
-use Rattle.std.proofs.Common.{◌≡◌, suc, ◌-◌, arith}
+use Rattle.std.proofs.Common.{◌-◌, arith}
 use Rattle.query_terms.specs.declared.stop.Nest.TheVariants as nests
 use Rattle.query_terms.specs.Grammar.{rule_of}
 use Rattle.query_syntax.proofs.Openings.{nest_refused, nest_opened}

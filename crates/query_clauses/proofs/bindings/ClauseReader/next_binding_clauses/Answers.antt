@@ -1,4 +1,4 @@
-use Rattle.std.proofs.Common.{ap, sym, ◌∙◌, ◌∷◌, ◌++◌, [], List, rules}
+use Rattle.std.proofs.Common.{ap, sym, ◌∙◌, ◌++◌, List, rules}
 use Rattle.query_terms.specs.declared.tree.Clause.{Clause}
 use Rattle.query_terms.specs.Rule.{clauses}
 use Rattle.query_terms.specs.Grammar.{clauses_in}

@@ -1,4 +1,0 @@
-use Rattle.name_resolver.proofs.resolver.+resolve_at.Given as goal
-
-abbrev pub decreases-resolve_at : goal.decreases-resolve_at
-decreases-resolve_at l = l.depth

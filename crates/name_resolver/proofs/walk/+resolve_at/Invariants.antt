@@ -1,0 +1,4 @@
+use Rattle.name_resolver.proofs.walk.+resolve_at.Given as goal
+
+abbrev pub decreases-resolve_at : goal.decreases-resolve_at
+decreases-resolve_at l = l.depth

@@ -1,9 +1,0 @@
-pub mod Words
-pub mod Keeping
-pub mod Looking
-pub mod Tokens
-pub mod Loops
-pub mod Comments
-pub mod Insides
-pub mod Table
-pub mod Agreeing
