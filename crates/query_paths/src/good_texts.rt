@@ -319,7 +319,7 @@ pub(crate) const GOOD: [&str; 354] = [
     "..=..",
     "..[1]",
     "declare namespace XML = \"u\"; 1",
-    "declare namespace p = \"HTTP://WWW.W3.ORG/XML/1998/NAMESPACE\"; 1",
+    "declare namespace p = \"http://www.w3.org/XML/1998/Namespace\"; 1",
     "declare namespace p = \"u\"; declare namespace q = \"u\"; 1",
     "declare namespace p = \"http://www.w3.org/XML/1998/namespace \"; 1",
     "'&#65533;'",
