@@ -65,6 +65,11 @@ def names(count):
     return "<r>" + "".join(f"<n{n}/>" for n in range(count)) + "</r>"
 
 
+def prefixes(count):
+    """Elements in each other, each of which declares a prefix of its own and is named by it."""
+    return "".join(f'<p{n}:e xmlns:p{n}="u{n}">' for n in range(count)) + "".join(f"</p{n}:e>" for n in reversed(range(count)))
+
+
 def write(folder, name, text):
     with open(os.path.join(folder, name), "w") as out:
         out.write(text)
@@ -113,6 +118,8 @@ def main():
             ("100,000 attributes", attributes(100_000), False),
             ("250,000 names", names(250_000), False),
             ("1,000,000 names", names(1_000_000), False),
+            ("50,000 nested prefixes", prefixes(50_000), False),
+            ("200,000 nested prefixes", prefixes(200_000), False),
         ]:
             write(folder, "d.xml", text)
             read = least([program], b"CREATE DB d d.xml\n", folder)

@@ -2,7 +2,8 @@
 use Rattle.std.proofs.Common.{◌≡◌, ℕ, ◌+◌, ◌-◌, ◌<◌, ◌≤◌, List, length, Bool, true, false, ap, sym, ◌∙◌, inl, inr, arith}
 use Rattle.std.specs.Prelude.{not}
 use Rattle.std.proofs.lemmas.Bool.{false≢true, cases_lt, cases_eq, and_from, and_left, and_right, not_from_true, not_from_false}
-use Rattle.axis_cursor.specs.RowAxes.{IsLaid, row_at, dist_at, size_at, asize_at, is_attr_at, up, is_in, root_of}
+use Rattle.node_table.specs.Laid.{IsLaid, row_at, dist_at, size_at, asize_at, is_attr_at, up}
+use Rattle.axis_cursor.specs.RowAxes.{is_in, root_of}
 use Rattle.axis_cursor.specs.Walks.{IsLast, is_child_of, is_node_beside, is_node_aside, IsAbove, IsAside, IsAtChild}
 use Rattle.axis_cursor.proofs.Relations.{child_is, no_child, in_is, not_in, IsIn, beside_is, not_beside}
 use Rattle.axis_cursor.proofs.Roots.{root_le, root_same, root_from}
@@ -256,8 +257,8 @@ module _ (rows : List Row) (laid : IsLaid rows) where
       let whole : here + size_at rows here ≡ at = climbing.whole (omega arith) in
       let dist : row.dist ≡ dist_at rows here = ap (λ (r : Row). r.dist) is in
       let u : up rows here ≡ q = omega arith in
-      let owned = rw u at (laid.owned here (omega arith) kind) in
-      let own : here < q + asize_at rows q = owned.1 in
+      let below : 0 < dist_at rows here = (below_parent q at here child (omega arith) high).0 in
+      let own : here < q + asize_at rows q = rw u at (laid.owned here (omega arith) kind below) in
       elim (cases_lt here k) [
         | inl behind ↦ none_inside rows laid q here k (omega arith) (omega arith) behind (omega arith)
         | inr front ↦ no_child rows q k (λ sibling.

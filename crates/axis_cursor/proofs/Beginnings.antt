@@ -3,7 +3,8 @@ use Rattle.std.proofs.Common.{◌≡◌, ℕ, ◌+◌, ◌-◌, ◌<◌, ◌≤�
 use Rattle.std.specs.Prelude.{nat_eq, nat_le, nat_lt, not, ◌&&◌, ◌||◌, filter, reverse}
 use Rattle.std.proofs.lemmas.Bool.{false≢true, cases_lt, cases_eq, and_parts, and_from, and_left, and_right, or_left, not_from_true, not_from_false, not-true, false_from_ne_true, ltb-true, lt-ltb, le-ltb, eqb-true, eq-eqb, ne_eqb, le-leb, lt-leb, cond-true, cond-false}
 use Rattle.axis_cursor.specs.Cursors.{remaining, Begins}
-use Rattle.axis_cursor.specs.RowAxes.{IsLaid, row_at, is_attribute, dist_at, size_at, asize_at, is_attr_at, up, is_up, is_in, is_child, are_children, root_of, stands_on}
+use Rattle.node_table.specs.Laid.{IsLaid, row_at, is_attribute, dist_at, size_at, asize_at, is_attr_at, up}
+use Rattle.axis_cursor.specs.RowAxes.{is_up, is_in, is_child, are_children, root_of, stands_on}
 use Rattle.axis_cursor.specs.Walks.{is_child_of, is_node, is_node_beside, is_node_aside, IsAmong, IsAbove}
 use Rattle.axis_cursor.specs.declared.walk.Walk.TheVariants.{Trees, Nodes, Attributes, After, Above, Before, TreesBefore, Done}
 use Rattle.axis_cursor.proofs.Backwards.{up_before}
@@ -181,8 +182,7 @@ module _ (rows : List Row) (laid : IsLaid rows) (c : ℕ) (within : c < length r
             let above = up_parts rows c k both.0 in
             let parent : k ≡ c + dist_at rows k = above.parent in
             let u : up rows k ≡ c = omega arith in
-            let owned = rw u at (laid.owned k high both.1) in
-            let own : k < c + asize_at rows c = owned.1 in
+            let own : k < c + asize_at rows c = rw u at (laid.owned k high both.1 above.below) in
             omega arith))
             (λ k low high.
             let attribute = laid.attributes c k within (omega arith) high in

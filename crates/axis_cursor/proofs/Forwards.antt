@@ -1,7 +1,8 @@
 -- One step of the walks forwards.
 use Rattle.std.proofs.Common.{◌≡◌, ℕ, ◌+◌, ◌-◌, ◌<◌, ◌≤◌, List, length, true, false, ap, sym, ◌∙◌, inl, inr, arith}
 use Rattle.std.proofs.lemmas.Bool.{false≢true, cases_lt, cases_eq}
-use Rattle.axis_cursor.specs.RowAxes.{IsLaid, row_at, dist_at, size_at, is_attr_at, up, root_of}
+use Rattle.node_table.specs.Laid.{IsLaid, row_at, dist_at, size_at, is_attr_at, up}
+use Rattle.axis_cursor.specs.RowAxes.{root_of}
 use Rattle.axis_cursor.specs.Walks.{IsFirst, is_child_of, is_node_beside, IsAtTree, IsBeside}
 use Rattle.axis_cursor.proofs.Relations.{child_is, no_child, beside_is, not_beside}
 use Rattle.axis_cursor.proofs.Roots.{root_le, root_same, root_from}

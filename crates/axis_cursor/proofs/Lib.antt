@@ -1,6 +1,6 @@
 -- Rows as trees, and the walks over them.
-pub mod NodeRows
-pub mod Laid
+pub mod Named
+pub mod Membership
 pub mod Told
 pub mod Ranges
 pub mod Roots

@@ -2,7 +2,8 @@
 use Rattle.std.proofs.Common.{◌≡◌, ℕ, ◌+◌, ◌<◌, List, Bool, true, false, ap, sym, ◌∙◌, arith}
 use Rattle.std.specs.Prelude.{nat_eq, nat_lt, not}
 use Rattle.std.proofs.lemmas.Bool.{and_parts, and_from, not_from_false, not-true, ltb-true, lt-ltb, eqb-true, eq-eqb, false_from_ne_true}
-use Rattle.axis_cursor.specs.RowAxes.{row_at, dist_at, size_at, is_attribute, is_attr_at, is_up, is_in, root_of}
+use Rattle.node_table.specs.Laid.{row_at, dist_at, size_at, is_attribute, is_attr_at}
+use Rattle.axis_cursor.specs.RowAxes.{is_up, is_in, root_of}
 use Rattle.axis_cursor.specs.Walks.{is_child_of, is_node_beside}
 use Rattle.frame_pool.specs.Meters.{HasRead}
 use Rattle.frame_pool.specs.declared.meter.Meter.{Meter}

@@ -2,7 +2,8 @@
 use Rattle.std.proofs.Common.{◌≡◌, inl, inr, ℕ, zero, suc, ◌<◌, ◌≤◌, List, ap, ◌∙◌, arith}
 use Rattle.std.specs.Prelude.{nat_eq}
 use Rattle.std.proofs.lemmas.Bool.{cond_both, cond-false, ne_eqb, eqb-false, cases_eq}
-use Rattle.axis_cursor.specs.RowAxes.{dist_at, root_of}
+use Rattle.node_table.specs.Laid.{dist_at}
+use Rattle.axis_cursor.specs.RowAxes.{root_of}
 use Rattle.tree_model.specs.declared.row.Row.{Row}
 
 pub root_le : (rows : List Row) (p : ℕ) → root_of rows p ≤ p

@@ -2,10 +2,10 @@
 use Rattle.std.proofs.Common.{◌≡◌, ◌≢◌, inl, inr, ℕ, zero, suc, ◌+◌, ◌<◌, ◌≤◌, Bool, true, false, not, cond, List, [], ◌∷◌, ◌++◌, length, map, refl, sym, ap, ap₂, ◌∙◌, subst, arith, append-nil, reverse}
 use Rattle.std.specs.Prelude.{◌⊎◌, ◌&&◌, ◌||◌, nat_eq, nat_lt, nat_le, filter}
 use Rattle.std.specs.Bool.{Decides}
-use Rattle.std.specs.List.{list_any, flat_map, range_with_len}
+use Rattle.std.specs.List.{flat_map, range_with_len}
 use Rattle.std.proofs.lemmas.List.{map-append, reverse-append}
 use Rattle.std.proofs.lemmas.List.Elements.{filter-append}
-use Rattle.std.proofs.lemmas.Bool.{and_parts, and_from, or_left, or_right}
+use Rattle.std.proofs.lemmas.Bool.{and_parts, and_from}
 use Rattle.std.proofs.lemmas.Bool.Decides.{same_from_decides, Decides-and, Decides-not, Decides-like, Decides-ltb, Decides-at, leb_tells, eqb_tells}
 use Rattle.tree_model.specs.Axes.{attributes, below, subtree, is_inside, is_parent, are_siblings, are_together, is_on, passes, is_principal, is_reverse, has_name, directed, axis_nodes}
 use Rattle.tree_model.specs.Forest.{Forest, none, tree, count}
@@ -21,10 +21,13 @@ use Rattle.tree_model.specs.declared.row.Row.{Row}
 use Rattle.tree_model.specs.declared.text.Name.{Name}
 use Rattle.tree_model.proofs.Relations.{weight, inside_in}
 use Rattle.tree_model.proofs.Standing.{IsIn, in_append, in_left, in_right, tops_in, children_in, node_places}
-use Rattle.axis_cursor.specs.RowAxes.{IsLaid, row_at, dist_at, size_at, is_attr_at, up, is_up, is_in, is_child, are_children, root_of, stands_on, row_places, row_passes}
-use Rattle.axis_cursor.specs.Trees.{forest_of, AreTrees, places_of, node_at, axis_places}
-use Rattle.axis_cursor.proofs.NodeRows.{IsRowOf, some_row, root_row, child_row, attribute_row, node_of, node_inside, inside_places, Kin, root, child, attribute, kin, later, before, same_node, nodes_counted, one_there}
-use Rattle.axis_cursor.proofs.Laid.{laid, clash, child_at, attribute_at, marked, plain}
+use Rattle.node_table.specs.Laid.{IsLaid, row_at, dist_at, size_at, is_attr_at, up}
+use Rattle.axis_cursor.specs.RowAxes.{is_up, is_in, is_child, are_children, root_of, stands_on, row_places, row_passes}
+use Rattle.node_table.specs.Views.{view_of, view_forest, KeepsTrees, places_of}
+use Rattle.axis_cursor.specs.Trees.{node_at, axis_places}
+use Rattle.axis_cursor.proofs.Membership.{decides_eq, any_found, any_there, among}
+use Rattle.node_table.proofs.NodeRows.{IsRowOf, some_row, root_row, child_row, attribute_row, node_of, node_inside, inside_places, Kin, root, child, attribute, kin, later, before, same_node, nodes_counted, one_there}
+use Rattle.node_table.proofs.Geometry.{laid, clash, child_at, attribute_at, marked, plain}
 
 -- ---- tests that decide
 
@@ -35,26 +38,8 @@ decides_not false = (λ e. refl, λ e. refl)
 decides_itself : (b : Bool) → Decides b (b ≡ true)
 decides_itself b = (λ e. e, λ e. e)
 
-decides_eq : (a b : ℕ) → Decides (nat_eq a b) (a ≡ b)
-decides_eq a b = elim (eqb_tells a b) [ inl h ↦ (λ e. h.1, λ e. h.0) | inr h ↦ (λ e. clash (nat_eq a b) e h.0, λ e. absurd (h.1 e)) ]
-
 decides_le : (a b : ℕ) → Decides (nat_le a b) (a ≤ b)
 decides_le a b = elim (leb_tells a b) [ inl h ↦ (λ e. h.1, λ e. h.0) | inr h ↦ (λ e. clash (nat_le a b) e h.0, λ e. let lt : b < a = h.1 in absurd (omega arith)) ]
-
--- ---- membership
-
-any_found : (p : Node Label → Bool) (xs : List (Node Label)) → list_any p xs ≡ true → (x : Node Label) × IsIn xs x × (p x ≡ true)
-any_found p [] e = absurd cc
-any_found p (x ∷ xs) e = by (any_found p xs) (p x) refl
-  where
-    by : (list_any p xs ≡ true → (y : Node Label) × IsIn xs y × (p y ≡ true)) → (b : Bool) → p x ≡ b → (y : Node Label) × IsIn (x ∷ xs) y × (p y ≡ true)
-    by more true is = (x, inl refl, is)
-    by more false is = let r = more (sym (ap (λ b. b || list_any p xs) is) ∙ e) in (r.0, inr r.1, r.2)
-
-any_there : (p : Node Label → Bool) (xs : List (Node Label)) (x : Node Label) → IsIn xs x → p x ≡ true → list_any p xs ≡ true
-any_there p [] x h e = absurd h
-any_there p (y ∷ xs) x (inl is) e = or_left (p y) (list_any p xs) (ap p is ∙ e)
-any_there p (y ∷ xs) x (inr h) e = or_right (p y) (list_any p xs) (any_there p xs x h e)
 
 -- ---- lists
 
@@ -81,22 +66,12 @@ filter_reversed p (x ∷ xs) =
     by true = sym (reverse-append (x ∷ []) (filter p xs))
     by false = append-nil (reverse (filter p xs))
 
-module _ (names : List Name) (values : List ℕ) (rows : List Row) (trees : AreTrees names values rows) where
+module _ (names : List Name) (values : List ℕ) (rows : List Row) (trees : KeepsTrees (view_of rows names values)) where
   abbrev f : Forest Label
-  f = forest_of names values rows
+  f = view_forest (view_of rows names values)
 
   rows_laid : IsLaid rows
   rows_laid = laid names values rows trees
-
-  -- a node is among some of the forest where it is one of them
-  among : (xs : List (Node Label)) → ((x : Node Label) → IsIn xs x → IsIn (nodes f) x) → (b : Node Label) → IsIn (nodes f) b → Decides (is_among xs b) (IsIn xs b)
-  among xs within b h = (
-    λ e.
-        let r = any_found (λ other. nat_eq other.place b.place) xs e in
-        let same : r.0 ≡ b = same_node f r.0 b (within r.0 r.1) h ((decides_eq (r.0).place b.place).0 r.2) in
-        subst (IsIn xs) same r.1,
-    λ k. any_there (λ other. nat_eq other.place b.place) xs b k ((decides_eq b.place b.place).1 refl),
-  )
 
   size_is : (a : Node Label) → IsIn (nodes f) a → size_at rows a.place ≡ weight a
   size_is a h = ((some_row names values rows trees a h).1).size
@@ -112,7 +87,7 @@ module _ (names : List Name) (values : List ℕ) (rows : List Row) (trees : AreT
       let gt : b.place < a.place + size_at rows a.place = le.1 in
       let w = node_inside names values rows trees a b.place lt (omega (arith, gt, size_is a h)) in
       subst (IsIn (attributes a ++ below a)) (same_node f w.0 b (inside_in 0 f a w.0 h w.1) k w.2) w.1)
-      (among (attributes a ++ below a) (λ x i. inside_in 0 f a x h i) b k)
+      (among f (attributes a ++ below a) (λ x i. inside_in 0 f a x h i) b k)
 
   inside_test : (a b : Node Label) → IsIn (nodes f) a → IsIn (nodes f) b → is_inside a b ≡ is_in rows a.place b.place
   unfolding is_inside
@@ -160,7 +135,7 @@ module _ (names : List Name) (values : List ℕ) (rows : List Row) (trees : AreT
   children_test : (a b : Node Label) → IsIn (nodes f) a → IsIn (nodes f) b → is_among (children a) b ≡ (is_up rows a.place b.place && not (is_attr_at rows b.place))
   children_test a b h k =
       same_from_decides (is_among (children a) b) (is_up rows a.place b.place && not (is_attr_at rows b.place))
-      (among (children a) (λ x c. children_in 0 f a x h c) b k)
+      (among f (children a) (λ x c. children_in 0 f a x h c) b k)
       (Decides-like (is_up rows a.place b.place && not (is_attr_at rows b.place)) (λ is. up_child a b h (kin names values rows trees b k) is.0 is.1) (child_up a b h)
       (Decides-and (is_up rows a.place b.place) (not (is_attr_at rows b.place)) (is_up_test a b) (decides_not (is_attr_at rows b.place))))
 
@@ -170,7 +145,7 @@ module _ (names : List Name) (values : List ℕ) (rows : List Row) (trees : AreT
   attributes_test : (a b : Node Label) → IsIn (nodes f) a → IsIn (nodes f) b → is_among (attributes a) b ≡ (is_up rows a.place b.place && is_attr_at rows b.place)
   attributes_test a b h k =
       same_from_decides (is_among (attributes a) b) (is_up rows a.place b.place && is_attr_at rows b.place)
-      (among (attributes a) (λ x c. attribute_within a x h c) b k)
+      (among f (attributes a) (λ x c. attribute_within a x h c) b k)
       (Decides-like (is_up rows a.place b.place && is_attr_at rows b.place) (λ is. up_attribute a b h (kin names values rows trees b k) is.0 is.1) (attribute_up a b h)
       (Decides-and (is_up rows a.place b.place) (is_attr_at rows b.place) (is_up_test a b) (decides_itself (is_attr_at rows b.place))))
 
@@ -187,7 +162,7 @@ module _ (names : List Name) (values : List ℕ) (rows : List Row) (trees : AreT
   parent_test a b h k =
       same_from_decides (is_among (attributes a ++ children a) b) (is_up rows a.place b.place)
       (Decides-like (is_among (attributes a ++ children a) b) (parent_in a b h) (in_parent a b h (kin names values rows trees b k))
-      (among (attributes a ++ children a) (λ x c. elim (in_append (attributes a) (children a) x c) [ inl at ↦ attribute_within a x h at | inr kid ↦ children_in 0 f a x h kid ]) b k))
+      (among f (attributes a ++ children a) (λ x c. elim (in_append (attributes a) (children a) x c) [ inl at ↦ attribute_within a x h at | inr kid ↦ children_in 0 f a x h kid ]) b k))
       (is_up_test a b)
 
   -- ---- what is below a node, without attributes
@@ -201,9 +176,9 @@ module _ (names : List Name) (values : List ℕ) (rows : List Row) (trees : AreT
       (λ (is : IsIn (below a) b × (is_attr b.label ≡ false)). (in_right (attributes a) (below a) b is.0, sym (attr_is b k) ∙ is.1))
       (λ (is : IsIn whole b × (is_attr_at rows b.place ≡ false)).
       (elim (in_append (attributes a) (below a) b is.0) [ inl at ↦ clash (is_attr_at rows b.place) (attribute_up a b h at).1 is.1 | inr under ↦ under ], attr_is b k ∙ is.1))
-      (Decides-and (is_among (below a) b) (not (is_attr b.label)) (among (below a) (λ x i. inside_in 0 f a x h (in_right (attributes a) (below a) x i)) b k) (decides_not (is_attr b.label))))
+      (Decides-and (is_among (below a) b) (not (is_attr b.label)) (among f (below a) (λ x i. inside_in 0 f a x h (in_right (attributes a) (below a) x i)) b k) (decides_not (is_attr b.label))))
       (Decides-at (is_in rows a.place b.place && not (is_attr_at rows b.place)) (is_among whole b && not (is_attr_at rows b.place)) (ap (λ c. c && not (is_attr_at rows b.place)) (sym (inside_test a b h k)))
-      (Decides-and (is_among whole b) (not (is_attr_at rows b.place)) (among whole (λ x i. inside_in 0 f a x h i) b k) (decides_not (is_attr_at rows b.place))))
+      (Decides-and (is_among whole b) (not (is_attr_at rows b.place)) (among f whole (λ x i. inside_in 0 f a x h i) b k) (decides_not (is_attr_at rows b.place))))
 
   -- ---- siblings
 
@@ -236,7 +211,7 @@ module _ (names : List Name) (values : List ℕ) (rows : List Row) (trees : AreT
       (Decides-and (is_child rows a.place) (is_child rows b.place) (child_decides a) (child_decides b)) (decides_eq (up rows a.place) (up rows b.place))
 
   in_kids : (y b : Node Label) → IsIn (nodes f) y → IsIn (nodes f) b → Decides (is_among (children y) b) (IsIn (children y) b)
-  in_kids y b h k = among (children y) (λ x c. children_in 0 f y x h c) b k
+  in_kids y b h k = among f (children y) (λ x c. children_in 0 f y x h c) b k
 
   siblings_test : (a b : Node Label) → IsIn (nodes f) a → IsIn (nodes f) b → are_siblings f a b ≡ are_children rows a.place b.place
   unfolding are_siblings
@@ -296,7 +271,7 @@ module _ (names : List Name) (values : List ℕ) (rows : List Row) (trees : AreT
 
   in_subtree : (t b : Node Label) → IsIn (nodes f) t → IsIn (nodes f) b → IsIn (subtree t) b → (t.place ≤ b.place) × (b.place < t.place + size_at rows t.place)
   in_subtree t b h k (inl e) = let same : t.place ≡ b.place = ap (λ (y : Node Label). y.place) e in (omega arith, omega (arith, size_is t h))
-  in_subtree t b h k (inr i) = let le = (inside_is t b h k).0 ((among (attributes t ++ below t) (λ x j. inside_in 0 f t x h j) b k).1 i) in (omega (arith, le.0), le.1)
+  in_subtree t b h k (inr i) = let le = (inside_is t b h k).0 ((among f (attributes t ++ below t) (λ x j. inside_in 0 f t x h j) b k).1 i) in (omega (arith, le.0), le.1)
 
   root_is : (t b : Node Label) → IsIn (tops f) t → IsIn (nodes f) b → IsIn (subtree t) b → root_of rows b.place ≡ t.place
   root_is t b h k i = let at = in_subtree t b (tops_in 0 f t h) k i in root_from t h b.place at.0 at.1
@@ -306,7 +281,7 @@ module _ (names : List Name) (values : List ℕ) (rows : List Row) (trees : AreT
   within_tree t x h (inr i) = inside_in 0 f t x h i
 
   in_tree : (t b : Node Label) → IsIn (tops f) t → IsIn (nodes f) b → Decides (is_among (subtree t) b) (IsIn (subtree t) b)
-  in_tree t b h k = among (subtree t) (λ x i. within_tree t x (tops_in 0 f t h) i) b k
+  in_tree t b h k = among f (subtree t) (λ x i. within_tree t x (tops_in 0 f t h) i) b k
 
   together_test : (a b : Node Label) → IsIn (nodes f) a → IsIn (nodes f) b → are_together f a b ≡ nat_eq (root_of rows a.place) (root_of rows b.place)
   unfolding are_together

@@ -1,7 +1,8 @@
 -- What each walk gives is the first of what is left of the axis.
 use Rattle.std.proofs.Common.{◌≡◌, ℕ, List, length, Option, Some, None, refl, sym, ap, ◌∙◌}
 use Rattle.axis_cursor.specs.Cursors.{remaining, HasBegun, Stepped}
-use Rattle.axis_cursor.specs.RowAxes.{is_attr_at, is_in}
+use Rattle.node_table.specs.Laid.{is_attr_at}
+use Rattle.axis_cursor.specs.RowAxes.{is_in}
 use Rattle.axis_cursor.specs.Walks.{places, FirstFrom, LastBefore, is_child_of, is_node, is_node_beside, is_node_aside, parent_in, IsAtTree, IsAmong, IsAmongAttributes, IsBeside, IsAbove, IsAside, IsAtChild}
 use Rattle.axis_cursor.specs.declared.walk.Walk.{Walk}
 use Rattle.axis_cursor.specs.declared.walk.Walk.TheVariants.{Trees, Nodes, Attributes, After, Above, Before, TreesBefore}

@@ -1,6 +1,7 @@
 -- What a cursor has still to give.
 use Rattle.std.specs.Prelude.{◌≡◌, ℕ, ◌<◌, List, [], ◌∷◌, ◌++◌, length, All, filter, reverse, Option, Some, None, nat_eq, if◌then◌else◌}
-use Rattle.axis_cursor.specs.RowAxes.{IsLaid, dist_at, is_attr_at, up, is_in, row_places, row_passes}
+use Rattle.node_table.specs.Laid.{IsLaid, dist_at, is_attr_at, up}
+use Rattle.axis_cursor.specs.RowAxes.{is_in, row_places, row_passes}
 use Rattle.axis_cursor.specs.Walks.{places, IsRow, is_child_of, is_node, is_node_beside, is_node_aside, parent_in, IsAtTree, IsAmong, IsAmongAttributes, IsBeside, IsAbove, IsAside, IsAtChild}
 use Rattle.axis_cursor.specs.declared.walk.Walk.{Walk}
 use Rattle.axis_cursor.specs.declared.walk.Walk.TheVariants.{Start, Trees, Nodes, Attributes, After, Above, Before, TreesBefore, Done}

@@ -1,7 +1,8 @@
 -- What the walks over rows give: the next place that passes a test, with its row.
 use Rattle.std.specs.Prelude.{◌≡◌, ℕ, ◌+◌, ◌-◌, ◌<◌, ◌≤◌, Bool, true, false, not, ◌&&◌, nat_eq, List, length, Option, Some, None}
 use Rattle.std.specs.List.{range_with_len}
-use Rattle.axis_cursor.specs.RowAxes.{row_at, dist_at, size_at, is_attr_at, up, is_up, is_in, root_of}
+use Rattle.node_table.specs.Laid.{row_at, dist_at, size_at, is_attr_at, up}
+use Rattle.axis_cursor.specs.RowAxes.{is_up, is_in, root_of}
 use Rattle.tree_model.specs.declared.axis.Axis.{Axis}
 use Rattle.tree_model.specs.declared.axis.Axis.TheVariants.{FollowingSibling}
 use Rattle.tree_model.specs.declared.row.Row.{Row}

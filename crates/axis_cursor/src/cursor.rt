@@ -1,25 +1,25 @@
 // Cursors over axes.
-ghost use Rattle.std.specs.Prelude.{◌≡◌, ℕ, ◌<◌, List, length, All};
+ghost use Rattle.std.specs.Prelude.{◌≡◌, ℕ, ◌<◌, List, length};
 ghost use Rattle.axis_cursor.specs.Cursors.{Gave};
-ghost use Rattle.axis_cursor.specs.Trees.{AreTrees, axis_places, forest_of};
+ghost use Rattle.axis_cursor.specs.Trees.{axis_places};
 ghost use Rattle.frame_pool.specs.Meters.{HasRead};
-ghost use Rattle.tree_model.specs.declared.row.Row.{Row as TableRow};
+ghost use Rattle.node_table.specs.Tables.{rows_in, IsIn};
+ghost use Rattle.node_table.specs.Views.{view_of, view_forest, KeepsTrees};
 
 use crate::origin::Origin;
 use crate::walk::Walk;
 use frame_pool::{Meter, Pool};
 use name_pool::NamePool;
-use node_table::NodeTable;
+use node_table::{NodeTable, RowReader};
 use std::marker::Model;
 use tree_model::{Axis, Row, Test};
 
-/// The nodes of an axis that pass a test, one after the other (XPath 2.0, section 3.2.1). A cursor borrows the table, its
-/// pool and its names, and holds numbers only. Contracts see the list of the pre numbers that it has still to give, in the
-/// axis's own order. It goes over the rows in that direction, reads none of them twice, and none beyond the one that it gives.
+/// The nodes of an axis that pass a test, one after the other (XPath 2.0, section 3.2.1). A cursor reads the rows of a table by
+/// a reader of its own, and borrows the names. Contracts see the list of the pre numbers that it has still to give, in the axis's
+/// own order. It goes over the rows in that direction, reads none of them twice, and none beyond the one that it gives.
 #[derive(Drop)]
 pub struct Cursor<'t> {
-    table: &'t NodeTable,
-    pool: &'t Pool<Row>,
+    reader: RowReader<'t>,
     names: &'t NamePool,
     test: &'t Test,
     axis: Axis,
@@ -34,9 +34,9 @@ impl<'t> Model for Cursor<'t> {
 
     ghost use Rattle.axis_cursor.specs.Cursors.{to_come, IsOpen};
 
-    ghost view = { λ c. to_come c.names.now c.table.now c.axis c.test.now c.context c.walk };
+    ghost view = { λ c. to_come c.names.now c.reader c.axis c.test.now c.context c.walk };
 
-    ghost invariant = { λ c. IsOpen c.names.now c.table.now c.axis c.context c.walk };
+    ghost invariant = { λ c. IsOpen c.names.now c.reader c.axis c.context c.walk };
 }
 
 impl<'t> Cursor<'t> {
@@ -49,14 +49,14 @@ impl<'t> Cursor<'t> {
         axis: Axis,
         test: &'t Test,
     ) -> Cursor<'t>
-        requires trees { (values : List ℕ) × AreTrees names.now values table.now }
-        requires named { All (λ (row : TableRow). row.name < length names.now) table.now }
-        requires within { context < length table.now }
-        ensures { (values : List ℕ) → AreTrees names.now values table.now → result ≡ axis_places (forest_of names.now values table.now) axis test.now context }
+        requires held { IsIn pool.now table.now }
+        requires trees { (values : List ℕ) × KeepsTrees (view_of (rows_in pool.now table.now) names.now values) }
+        requires within { context < length (rows_in pool.now table.now) }
+        ensures { (values : List ℕ) → KeepsTrees (view_of (rows_in pool.now table.now) names.now values)
+            → result ≡ axis_places (view_forest (view_of (rows_in pool.now table.now) names.now values)) axis test.now context }
     {
         Cursor {
-            table,
-            pool,
+            reader: table.reader(pool),
             names,
             test,
             axis,
@@ -71,11 +71,15 @@ impl<'t> Cursor<'t> {
         ensures meter { HasRead meter.old meter.new }
     {
         let origin = Origin {
-            table: self.table,
-            pool: self.pool,
             axis: self.axis,
             context: self.context,
         };
-        origin.find(self.names, self.test, &mut self.walk, meter)
+        origin.find(
+            self.names,
+            self.test,
+            &mut self.walk,
+            &mut self.reader,
+            meter,
+        )
     }
 }

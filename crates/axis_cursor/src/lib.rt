@@ -4,12 +4,14 @@
 mod cursor;
 mod node_test;
 mod origin;
+mod rows;
 mod start;
 mod steps;
 mod walk;
 
 pub use cursor::Cursor;
 pub use node_test::passes;
+pub use rows::row_at;
 
 #[cfg(test)]
 mod tests;

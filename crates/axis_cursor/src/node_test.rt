@@ -3,7 +3,7 @@ ghost use Rattle.std.specs.Prelude.{◌≡◌, ◌<◌, [], length};
 ghost use Rattle.tree_model.specs.Axes.{is_asked, has_name, is_principal, passes};
 ghost use Rattle.tree_model.specs.Labels.{Label};
 ghost use Rattle.tree_model.specs.Rows.{label_of, name_at};
-ghost use Rattle.axis_cursor.specs.RowAxes.{is_attribute};
+ghost use Rattle.node_table.specs.Laid.{is_attribute};
 
 use name_pool::NamePool;
 use tree_model::{Axis, Kind, Name, Row, Test, Text};

@@ -1,4 +1,5 @@
-ghost use Rattle.std.specs.Prelude.{◌≡◌, ◌<◌, IfOk};
+ghost use Rattle.std.specs.Prelude.{◌≡◌, ◌<◌, ◌≤◌, ◌^◌, length, IfOk};
+ghost use Rattle.node_table.specs.Tables.{rows_in, IsIn};
 
 use super::*;
 use frame_pool::{Meter, Pool};
@@ -112,16 +113,55 @@ const ROWS: [Row; 16] = [
     },
 ];
 
-fn table(alloc: Global) -> Result<NodeTable, NoMemory>
-    ensures { IfOk result (λ table. table ≡ ROWS) }
+// An attribute, a text, an element with an attribute and a comment, and another attribute, each alone.
+const ROOTS: [Row; 6] = [
+    Row {
+        kind: Kind::Attr,
+        name: 2,
+        dist: 0,
+        ..LEAF
+    },
+    Row {
+        kind: Kind::Text,
+        dist: 0,
+        ..LEAF
+    },
+    Row {
+        name: 1,
+        dist: 0,
+        size: 3,
+        asize: 2,
+        ..LEAF
+    },
+    Row {
+        kind: Kind::Attr,
+        name: 2,
+        ..LEAF
+    },
+    Row {
+        kind: Kind::Comm,
+        dist: 2,
+        ..LEAF
+    },
+    Row {
+        kind: Kind::Attr,
+        name: 3,
+        dist: 0,
+        ..LEAF
+    },
+];
+
+fn table_of(alloc: Global, pool: &mut Pool<Row>, rows: &[Row]) -> Result<NodeTable, NoMemory>
+    requires { length rows.now ≤ 2 ^ 24 }
+    ensures rows { IfOk result (λ table. rows_in pool.new table ≡ rows.now) }
+    ensures held { IfOk result (λ table. IsIn pool.new table) }
 {
     let mut table = NodeTable::new(alloc);
-    let rows = ROWS.to_vec(alloc)?;
-    table.insert_documents(&mut Pool::new(), 0, rows)?;
+    table.insert_documents(pool, 0, rows.to_vec(alloc)?)?;
     Ok(table)
 }
 
-fn pool(alloc: Global) -> Result<NamePool, NoMemory> {
+fn name_pool(alloc: Global) -> Result<NamePool, NoMemory> {
     let mut pool = NamePool::new(alloc);
     for (uri, prefix, local) in [
         ("", "", ""),
@@ -139,18 +179,10 @@ fn pool(alloc: Global) -> Result<NamePool, NoMemory> {
 }
 
 // What a cursor gives. It gives nothing more once it gave None.
-fn given(rt: &HostRuntime, axis: Axis, context: u32, test: &Test) -> Result<Vec<u32>, Fail>
-    requires { context < 16 }
-{
-    let table = table(rt.alloc())?;
-    let names = pool(rt.alloc())?;
-    if names.len() != 8 {
-        return Err(Fail::from("other names"));
-    }
-    let pool = Pool::new();
+fn walked(alloc: Global, cursor: Cursor<'_>) -> Result<Vec<u32>, Fail> {
+    let mut cursor = cursor;
     let mut meter = Meter::new();
-    let mut found = Vec::new(rt.alloc());
-    let mut cursor = Cursor::new(&table, &pool, &names, context, axis, test);
+    let mut found = Vec::new(alloc);
     for _ in 0..20 {
         match cursor.next(&mut meter) {
             Some(place) => found.push(place)?,
@@ -163,108 +195,131 @@ fn given(rt: &HostRuntime, axis: Axis, context: u32, test: &Test) -> Result<Vec<
     Ok(found)
 }
 
-// The same two documents by the parent of each node, and which nodes are attributes.
-const PARENTS: [Option<u32>; 16] = [
-    None,
-    Some(0),
-    Some(0),
-    Some(2),
-    Some(2),
-    Some(2),
-    Some(2),
-    Some(6),
-    Some(6),
-    Some(2),
-    Some(2),
-    Some(0),
-    None,
-    Some(12),
-    Some(13),
-    Some(13),
-];
-
-fn parent(place: u32) -> Option<u32> {
-    match PARENTS.get(place as usize) {
-        Some(parent) => *parent,
-        None => None,
+fn given(rt: &HostRuntime, axis: Axis, context: u32, test: &Test) -> Result<Vec<u32>, Fail>
+    requires { context < 16 }
+{
+    let mut pool = Pool::new(rt.alloc());
+    let table = table_of(rt.alloc(), &mut pool, &ROWS)?;
+    let names = name_pool(rt.alloc())?;
+    if names.len() != 8 {
+        return Err(Fail::from("other names"));
     }
+    let cursor = Cursor::new(&table, &pool, &names, context, axis, test);
+    walked(rt.alloc(), cursor)
 }
 
-fn is_attribute(place: u32) -> bool {
-    matches!(place, 3 | 4 | 7 | 14)
+fn given_of_roots(rt: &HostRuntime, axis: Axis, context: u32) -> Result<Vec<u32>, Fail>
+    requires { context < 6 }
+{
+    let mut pool = Pool::new(rt.alloc());
+    let table = table_of(rt.alloc(), &mut pool, &ROOTS)?;
+    let names = name_pool(rt.alloc())?;
+    if names.len() != 8 {
+        return Err(Fail::from("other names"));
+    }
+    let cursor = Cursor::new(&table, &pool, &names, context, axis, &Test::Node);
+    walked(rt.alloc(), cursor)
 }
 
-fn is_above(above: u32, place: u32) -> bool {
-    let mut here = place;
-    for _ in 0..16 {
-        match parent(here) {
-            Some(up) if up == above => return true,
-            Some(up) => here = up,
-            None => return false,
+// The nodes of a table by the parent of each, and those of them that are attributes.
+#[derive(Clone, Copy)]
+struct Nodes<'n> {
+    parents: &'n [Option<u32>],
+    attributes: &'n [u32],
+}
+
+impl Nodes<'_> {
+    fn parent(&self, place: u32) -> Option<u32> {
+        match self.parents.get(place as usize) {
+            Some(parent) => *parent,
+            None => None,
         }
     }
-    false
-}
 
-fn are_together(a: u32, b: u32) -> bool {
-    (a < 12) == (b < 12)
-}
-
-fn are_siblings(a: u32, b: u32) -> bool {
-    parent(a).is_some() && parent(a) == parent(b) && !is_attribute(a) && !is_attribute(b)
-}
-
-fn is_below(context: u32, place: u32) -> bool {
-    is_above(context, place) && !is_attribute(place)
-}
-
-// Whether a place is on an axis, as the axes are defined (XPath 2.0, section 3.2.1.1).
-fn is_on(axis: Axis, context: u32, place: u32) -> bool {
-    match axis {
-        Axis::Child => parent(place) == Some(context) && !is_attribute(place),
-        Axis::Descendant => is_below(context, place),
-        Axis::Attribute => parent(place) == Some(context) && is_attribute(place),
-        Axis::Slf => place == context,
-        Axis::DescendantOrSelf => place == context || is_below(context, place),
-        Axis::FollowingSibling => context < place && are_siblings(context, place),
-        Axis::Following => {
-            context < place
-                && are_together(context, place)
-                && !is_above(context, place)
-                && !is_attribute(place)
-        }
-        Axis::Parent => parent(context) == Some(place),
-        Axis::Ancestor => is_above(place, context),
-        Axis::PrecedingSibling => place < context && are_siblings(place, context),
-        Axis::Preceding => {
-            place < context
-                && are_together(context, place)
-                && !is_above(place, context)
-                && !is_attribute(place)
-        }
-        Axis::AncestorOrSelf => place == context || is_above(place, context),
+    fn is_attribute(&self, place: u32) -> bool {
+        self.attributes.contains(&place)
     }
-}
 
-// The places of an axis in its own order.
-fn wanted(alloc: Global, axis: Axis, context: u32) -> Result<Vec<u32>, NoMemory> {
-    let mut places = Vec::new(alloc);
-    for place in 0..16 {
-        if is_on(axis, context, place) {
-            places.push(place)?;
+    fn is_above(&self, above: u32, place: u32) -> bool {
+        let mut here = place;
+        for _ in 0..16 {
+            match self.parent(here) {
+                Some(up) if up == above => return true,
+                Some(up) => here = up,
+                None => return false,
+            }
+        }
+        false
+    }
+
+    fn root(&self, place: u32) -> u32 {
+        let mut here = place;
+        for _ in 0..16 {
+            match self.parent(here) {
+                Some(up) => here = up,
+                None => break,
+            }
+        }
+        here
+    }
+
+    fn are_siblings(&self, a: u32, b: u32) -> bool {
+        self.parent(a).is_some()
+            && self.parent(a) == self.parent(b)
+            && !self.is_attribute(a)
+            && !self.is_attribute(b)
+    }
+
+    fn is_below(&self, context: u32, place: u32) -> bool {
+        self.is_above(context, place) && !self.is_attribute(place)
+    }
+
+    fn is_apart(&self, a: u32, b: u32) -> bool {
+        self.root(a) == self.root(b) && !self.is_above(a, b)
+    }
+
+    // Whether a place is on an axis, as the axes are defined (XPath 2.0, section 3.2.1.1).
+    fn is_on(&self, axis: Axis, context: u32, place: u32) -> bool {
+        match axis {
+            Axis::Child => self.parent(place) == Some(context) && !self.is_attribute(place),
+            Axis::Descendant => self.is_below(context, place),
+            Axis::Attribute => self.parent(place) == Some(context) && self.is_attribute(place),
+            Axis::Slf => place == context,
+            Axis::DescendantOrSelf => place == context || self.is_below(context, place),
+            Axis::FollowingSibling => context < place && self.are_siblings(context, place),
+            Axis::Following => {
+                context < place && self.is_apart(context, place) && !self.is_attribute(place)
+            }
+            Axis::Parent => self.parent(context) == Some(place),
+            Axis::Ancestor => self.is_above(place, context),
+            Axis::PrecedingSibling => place < context && self.are_siblings(place, context),
+            Axis::Preceding => {
+                place < context && self.is_apart(place, context) && !self.is_attribute(place)
+            }
+            Axis::AncestorOrSelf => place == context || self.is_above(place, context),
         }
     }
-    if matches!(
-        axis,
-        Axis::Parent
-            | Axis::Ancestor
-            | Axis::PrecedingSibling
-            | Axis::Preceding
-            | Axis::AncestorOrSelf
-    ) {
-        places.reverse();
+
+    // The places of an axis in its own order.
+    fn wanted(&self, alloc: Global, axis: Axis, context: u32) -> Result<Vec<u32>, NoMemory> {
+        let mut places = Vec::new(alloc);
+        for place in 0..16 {
+            if (place as usize) < self.parents.len() && self.is_on(axis, context, place) {
+                places.push(place)?;
+            }
+        }
+        if matches!(
+            axis,
+            Axis::Parent
+                | Axis::Ancestor
+                | Axis::PrecedingSibling
+                | Axis::Preceding
+                | Axis::AncestorOrSelf
+        ) {
+            places.reverse();
+        }
+        Ok(places)
     }
-    Ok(places)
 }
 
 const AXES: [Axis; 12] = [
@@ -284,10 +339,51 @@ const AXES: [Axis; 12] = [
 
 #[test]
 fn every_axis_from_every_node(rt: HostRuntime) -> Result<(), Fail> {
+    let nodes = Nodes {
+        parents: &[
+            None,
+            Some(0),
+            Some(0),
+            Some(2),
+            Some(2),
+            Some(2),
+            Some(2),
+            Some(6),
+            Some(6),
+            Some(2),
+            Some(2),
+            Some(0),
+            None,
+            Some(12),
+            Some(13),
+            Some(13),
+        ],
+        attributes: &[3, 4, 7, 14],
+    };
     for axis in AXES {
         for context in 0..16 {
             let places = given(&rt, axis, context, &Test::Node)?;
-            let others = wanted(rt.alloc(), axis, context)?;
+            let others = nodes.wanted(rt.alloc(), axis, context)?;
+            assert_eq!(rt;
+                places.as_slice(),
+                others.as_slice(),
+                "{axis:?} of {context}"
+            );
+        }
+    }
+    Ok(())
+}
+
+#[test]
+fn every_axis_among_roots_of_any_kind(rt: HostRuntime) -> Result<(), Fail> {
+    let nodes = Nodes {
+        parents: &[None, None, None, Some(2), Some(2), None],
+        attributes: &[0, 3, 5],
+    };
+    for axis in AXES {
+        for context in 0..6 {
+            let places = given_of_roots(&rt, axis, context)?;
+            let others = nodes.wanted(rt.alloc(), axis, context)?;
             assert_eq!(rt;
                 places.as_slice(),
                 others.as_slice(),

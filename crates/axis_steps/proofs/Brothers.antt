@@ -6,7 +6,8 @@ use Rattle.std.specs.List.{All}
 use Rattle.std.proofs.lemmas.Bool.{and_parts, and_from, lt-ltb, ltb-true, eq-eqb, eqb-true}
 use Rattle.std.proofs.lemmas.List.Elements.{All-append, All-take}
 use Rattle.tree_model.specs.declared.row.Row.{Row}
-use Rattle.axis_cursor.specs.RowAxes.{row_at, dist_at, is_attr_at, is_attribute, is_child, are_children, up, stands_on}
+use Rattle.node_table.specs.Laid.{row_at, dist_at, is_attr_at, is_attribute, up}
+use Rattle.axis_cursor.specs.RowAxes.{is_child, are_children, stands_on}
 use Rattle.axis_steps.specs.Siblings.{sibling_axis, IsChildAt, IsKept, HasTaken, TakesIn}
 use Rattle.axis_steps.specs.Steps.{Has, IsOnSome, Keeps}
 use Rattle.axis_steps.specs.declared.siblings.Child.{Child}

@@ -7,7 +7,8 @@ use Rattle.tree_model.specs.declared.axis.Axis.{Axis}
 use Rattle.tree_model.specs.declared.axis.Axis.TheVariants.{Descendant, DescendantOrSelf}
 use Rattle.tree_model.specs.declared.row.Row.{Row}
 use Rattle.tree_model.specs.declared.text.Name.{Name}
-use Rattle.axis_cursor.specs.RowAxes.{IsLaid, row_at, asize_at, size_at, is_attr_at, is_in, row_passes, stands_on}
+use Rattle.node_table.specs.Laid.{IsLaid, row_at, asize_at, size_at, is_attr_at}
+use Rattle.axis_cursor.specs.RowAxes.{is_in, row_passes, stands_on}
 use Rattle.axis_cursor.proofs.Relations.{in_parts, in_is}
 use Rattle.axis_steps.specs.Steps.{Has, Passes, HasReached, HasRows, HasOwn, HasBelow, Keeps}
 use Rattle.axis_steps.specs.declared.trees.Step.{Step}

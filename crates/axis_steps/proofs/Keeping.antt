@@ -7,7 +7,8 @@ use Rattle.tree_model.specs.declared.axis.Axis.{Axis}
 use Rattle.tree_model.specs.declared.axis.Axis.TheVariants.{Descendant, DescendantOrSelf, Following, Preceding}
 use Rattle.tree_model.specs.declared.row.Row.{Row}
 use Rattle.tree_model.specs.declared.text.Name.{Name}
-use Rattle.axis_cursor.specs.RowAxes.{IsLaid, size_at, is_attr_at, row_places, row_passes, stands_on}
+use Rattle.node_table.specs.Laid.{IsLaid, size_at, is_attr_at}
+use Rattle.axis_cursor.specs.RowAxes.{row_places, row_passes, stands_on}
 use Rattle.axis_steps.specs.Steps.{Has, Passes, IsOnSome, HasReached, Keeps, IsTreeEnd, axis_list}
 use Rattle.axis_steps.specs.Keeping.{IsOpen}
 use Rattle.axis_steps.specs.declared.trees.Step.{Step}

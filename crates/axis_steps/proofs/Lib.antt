@@ -6,5 +6,6 @@ pub mod Standing
 pub mod Keeping
 pub mod Brothers
 pub mod Leading
+pub mod Together
 pub mod TestRows
 pub mod Descendants

@@ -5,7 +5,8 @@ use Rattle.std.proofs.lemmas.Bool.{and_parts, and_from, or_right, or_cases}
 use Rattle.std.proofs.lemmas.Bool.Decides.{eqb_tells, leb_tells, Decides-ltb}
 use Rattle.tree_model.specs.declared.axis.Axis.TheVariants.{Descendant, DescendantOrSelf, Following, Preceding}
 use Rattle.tree_model.specs.declared.row.Row.{Row}
-use Rattle.axis_cursor.specs.RowAxes.{IsLaid, dist_at, size_at, is_attr_at, up, is_in, root_of, stands_on}
+use Rattle.node_table.specs.Laid.{IsLaid, dist_at, size_at, is_attr_at, up}
+use Rattle.axis_cursor.specs.RowAxes.{is_in, root_of, stands_on}
 use Rattle.axis_cursor.proofs.Roots.{root_same}
 use Rattle.axis_cursor.proofs.Relations.{in_parts, in_is, not_in}
 

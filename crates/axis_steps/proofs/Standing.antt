@@ -8,9 +8,12 @@ use Rattle.tree_model.specs.Axes.{passes}
 use Rattle.tree_model.specs.Rows.{label_of}
 use Rattle.tree_model.specs.declared.row.Row.{Row}
 use Rattle.tree_model.specs.declared.text.Name.{Name}
-use Rattle.axis_cursor.specs.RowAxes.{IsLaid, no_row, row_at, dist_at, size_at, up, is_in, row_passes}
-use Rattle.axis_cursor.specs.Trees.{AreTrees, forest_of, axis_places}
-use Rattle.axis_cursor.proofs.Laid.{laid}
+use Rattle.node_table.specs.Laid.{IsLaid, no_row, row_at, dist_at, size_at, up}
+use Rattle.axis_cursor.specs.RowAxes.{is_in, row_passes}
+use Rattle.node_table.specs.Views.{view_of, view_forest, KeepsTrees}
+use Rattle.axis_cursor.specs.Trees.{axis_places}
+use Rattle.node_table.proofs.Geometry.{laid}
+use Rattle.axis_cursor.proofs.Named.{all_named}
 use Rattle.axis_cursor.proofs.Told.{axis_places_are}
 use Rattle.axis_cursor.proofs.Relations.{in_parts, in_is}
 use Rattle.axis_steps.specs.Steps.{IsStanding, Has, Passes, HasClimbed, HasSelf, HasAncestors, IsTreeEnd, axis_list}
@@ -18,8 +21,9 @@ use Rattle.axis_steps.specs.declared.trees.Step.{Step}
 use Rattle.axis_steps.proofs.Having.{has_push, has_left, has_right}
 use Rattle.axis_steps.proofs.Nesting.{one_tree}
 
-pub rows_laid : (names : List Name) (rows : List Row) → IsStanding names rows → IsLaid rows
-rows_laid names rows standing = laid names (standing.trees).0 rows (standing.trees).1
+-- rows of trees
+pub stands : (names : List Name) (values : List ℕ) (rows : List Row) → KeepsTrees (view_of rows names values) → IsStanding names rows
+stands names values rows trees = record { laid = laid names values rows trees; named = all_named names values rows trees.placed }
 
 get_same : (rows : List Row) (p : ℕ) (d e : Row) → p < length rows → get_or rows p d ≡ get_or rows p e
 get_same [] p d e lt = absurd (omega arith)
@@ -144,12 +148,9 @@ row_tested names rows step p row b is test = ap (λ (r : Row). passes step.axis 
 -- ---- one axis
 
 -- what a cursor has to give
-pub list_of_axis : (names : List Name) (rows : List Row) (step : Step) (c : ℕ) (given : List ℕ) → IsStanding names rows → c < length rows
-    → ((values : List ℕ) → AreTrees names values rows → given ≡ axis_places (forest_of names values rows) step.axis step.test.now c) → given ≡ axis_list names rows step c
-list_of_axis names rows step c given standing lt is =
-    let values : List ℕ = (standing.trees).0 in
-    let trees : AreTrees names values rows = (standing.trees).1 in
-    is values trees ∙ axis_places_are names values rows trees step.axis step.test.now c lt
+pub list_of_axis : (names : List Name) (rows : List Row) (step : Step) (c : ℕ) (given : List ℕ) → ((values : List ℕ) × KeepsTrees (view_of rows names values)) → c < length rows
+    → ((values : List ℕ) → KeepsTrees (view_of rows names values) → given ≡ axis_places (view_forest (view_of rows names values)) step.axis step.test.now c) → given ≡ axis_list names rows step c
+list_of_axis names rows step c given trees lt is = is trees.0 trees.1 ∙ axis_places_are names trees.0 rows trees.1 step.axis step.test.now c lt
 
 -- ---- ancestors of many
 

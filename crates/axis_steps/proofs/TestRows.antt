@@ -1,8 +1,9 @@
 -- Rows that stand for trees since they are those of a forest, and the rows of the tests.
-use Rattle.std.proofs.Common.{◌≡◌, ℕ, zero, suc, ◌+◌, ◌*◌, ◌-◌, ◌<◌, List, [], ◌∷◌, ◌++◌, length, refl, sym, ap, ◌∙◌, subst, arith, append-nil, append_assoc}
-use Rattle.std.specs.List.{All}
-use Rattle.std.proofs.lemmas.List.Elements.{All-nil, All-cons}
-use Rattle.axis_cursor.specs.Trees.{HasKinds}
+use Rattle.std.proofs.Common.{◌≡◌, ℕ, zero, suc, ◌+◌, ◌*◌, ◌-◌, ◌<◌, Bool, true, List, [], ◌∷◌, ◌++◌, length, refl, sym, ap, ◌∙◌, subst, arith, append-nil, append_assoc}
+use Rattle.std.specs.List.{list_all}
+use Rattle.node_table.specs.Views.{view_of, is_no_attr, HasKinds, KeepsTrees}
+use Rattle.axis_cursor.proofs.Named.{is_placed, keeps_by_test}
+use Rattle.tree_model.specs.Sound.{AllTops}
 use Rattle.tree_model.specs.Forest.{Forest, none, tree, count, Line, lines, flatten}
 use Rattle.tree_model.specs.Labels.{Label}
 use Rattle.tree_model.specs.Rows.{label_of, lines_of}
@@ -11,16 +12,12 @@ use Rattle.tree_model.specs.declared.row.Kind.{Kind}
 use Rattle.tree_model.specs.declared.row.Kind.TheVariants.{Doc, Elem, Comm}
 use Rattle.tree_model.specs.declared.row.Row.{Row}
 use Rattle.tree_model.specs.declared.text.Name.{Name}
-use Rattle.axis_steps.specs.Steps.{IsStanding}
 
-abbrev pub IsNamed : List Name → Row → Type 0
-IsNamed names row = row.name < length names
+abbrev pub is_row : ℕ → Row → Bool
+is_row names row = is_placed names 0 row
 
-pub stands : (names : List Name) (rows : List Row) (f : Forest Label) → lines_of names [] rows ≡ flatten f → HasKinds f → All (IsNamed names) rows → IsStanding names rows
-stands names rows f e kinds named = record {
-  trees = ([], record { flat = is_flat _ f e; kinds = subst HasKinds (sym (grove_is _ f e)) kinds });
-  named = named;
-}
+pub stands : (names : List Name) (rows : List Row) (f : Forest Label) → lines_of names [] rows ≡ flatten f → HasKinds f → list_all (is_row (length names)) rows ≡ true → KeepsTrees (view_of rows names [])
+stands names rows f e kinds placed = keeps_by_test rows names [] (is_flat _ f e) placed (subst HasKinds (sym (grove_is _ f e)) kinds)
 
 -- a row without attributes and value
 abbrev pub row : Kind → ℕ → ℕ → ℕ → Row
@@ -98,36 +95,41 @@ module _ (names : List Name) where
       let next : suc d + 2 ≡ suc (d + 2) = omega arith in
       ap (λ ls. line Elem 3 (suc d) 2 ∷ (line Elem 3 1 1 ∷ ls)) (ap (λ e. lines_of names [] (pairs e n)) next ∙ pair_lines (d + 2) n)
 
+  chain_plain : (n : ℕ) → AllTops is_no_attr (chain_trees n)
+  chain_plain zero = tt
+  chain_plain (suc n) = (refl, tt)
+
   chain_kinds : (n : ℕ) → HasKinds (chain_trees n)
   chain_kinds zero = tt
-  chain_kinds (suc n) = (refl, refl, (refl, refl, tt, chain_kinds n), tt)
+  chain_kinds (suc n) = (refl, (refl, chain_plain n), (refl, tt, tt, chain_kinds n), tt)
+
+  pair_plain : (n : ℕ) → AllTops is_no_attr (pair_trees n)
+  pair_plain zero = tt
+  pair_plain (suc n) = (refl, pair_plain n)
 
   pair_kinds : (n : ℕ) → HasKinds (pair_trees n)
   pair_kinds zero = tt
-  pair_kinds (suc n) = (refl, refl, (refl, refl, tt, tt), pair_kinds n)
+  pair_kinds (suc n) = (refl, (refl, tt), (refl, tt, tt, tt), pair_kinds n)
+
+  chain_placed : (n : ℕ) → list_all (is_row 6) (chain n) ≡ true
+  chain_placed zero = refl
+  chain_placed (suc n) = chain_placed n
+
+  pairs_placed : (d n : ℕ) → list_all (is_row 6) (pairs d n) ≡ true
+  pairs_placed d zero = refl
+  pairs_placed d (suc n) = pairs_placed (d + 2) n
 
   module _ (h : length names ≡ 6) where
-    more_named : (r : Row) (rows : List Row) → r.name < 6 → All (IsNamed names) rows → All (IsNamed names) (r ∷ rows)
-    more_named r rows less more = All-cons (IsNamed names) r rows (omega (arith, h, less)) more
-
-    chain_named : (n : ℕ) → All (IsNamed names) (chain n)
-    chain_named zero = All-nil _
-    chain_named (suc n) = more_named (row Elem 1 2 (2 * suc n)) (leaf ∷ chain n) (omega arith) (more_named (leaf) (chain n) (omega arith) (chain_named n))
-
-    pairs_named : (d n : ℕ) → All (IsNamed names) (pairs d n)
-    pairs_named d zero = All-nil _
-    pairs_named d (suc n) = more_named (row Elem 3 d 2) (leaf ∷ pairs (d + 2) n) (omega arith) (more_named leaf (pairs (d + 2) n) (omega arith) (pairs_named (d + 2) n))
-
-    pub nested_stands : (n : ℕ) → IsStanding names (nested_rows n)
+    pub nested_stands : (n : ℕ) → KeepsTrees (view_of (nested_rows n) names [])
     nested_stands n =
         let size : 2 * n + 2 ≡ 1 + (1 + count (chain_trees n)) = omega (arith, chain_count n) in
         stands names (nested_rows n) (tree (label Doc 0) [] (tree (label Comm 0) [] none (chain_trees n)) none)
         (ap (λ k. line Doc 0 0 k ∷ (line Comm 0 1 1 ∷ lines_of names [] (chain n))) size
         ∙ ap (λ ls. line Doc 0 0 (1 + (1 + count (chain_trees n))) ∷ (line Comm 0 1 1 ∷ ls)) (chain_lines n ∙ sym (append-nil (lines 2 (chain_trees n)))))
-        (refl, refl, (refl, refl, tt, chain_kinds n), tt)
-        (more_named (row Doc 0 0 (2 * n + 2)) (row Comm 0 1 1 ∷ chain n) (omega arith) (more_named (row Comm 0 1 1) (chain n) (omega arith) (chain_named n)))
+        (refl, (refl, chain_plain n), (refl, tt, tt, chain_kinds n), tt)
+        (subst (λ k. list_all (is_row k) (nested_rows n) ≡ true) (sym h) (chain_placed n))
 
-    pub flat_stands : (n : ℕ) → IsStanding names (flat_rows n)
+    pub flat_stands : (n : ℕ) → KeepsTrees (view_of (flat_rows n) names [])
     flat_stands n =
         let inner : 2 * n + 1 ≡ 1 + 0 + count (pair_trees n) = omega (arith, pair_count n) in
         let size : 2 * n + 2 ≡ 1 + 0 + (1 + 0 + count (pair_trees n) + 0) = omega (arith, pair_count n) in
@@ -136,5 +138,5 @@ module _ (names : List Name) where
         ∙ ap (λ k. line Doc 0 0 (1 + 0 + (1 + 0 + count (pair_trees n) + 0)) ∷ (line Elem 1 1 k ∷ lines_of names [] (pairs 1 n))) inner
         ∙ ap (λ ls. line Doc 0 0 (1 + 0 + (1 + 0 + count (pair_trees n) + 0)) ∷ (line Elem 1 1 (1 + 0 + count (pair_trees n)) ∷ ls))
         (pair_lines 0 n ∙ sym (append-nil (lines 1 (pair_trees n))) ∙ sym (append-nil (lines 1 (pair_trees n) ++ []))))
-        (refl, refl, (refl, refl, pair_kinds n, tt), tt)
-        (more_named (row Doc 0 0 (2 * n + 2)) (row Elem 1 1 (2 * n + 1) ∷ pairs 1 n) (omega arith) (more_named (row Elem 1 1 (2 * n + 1)) (pairs 1 n) (omega arith) (pairs_named 1 n)))
+        (refl, (refl, tt), (refl, pair_plain n, pair_kinds n, tt), tt)
+        (subst (λ k. list_all (is_row k) (flat_rows n) ≡ true) (sym h) (pairs_placed 1 n))

@@ -1,6 +1,6 @@
 -- Nodes that are kept while others are looked at.
 use Rattle.std.specs.Prelude.{◌≡◌, ◌⊎◌, ℕ, ◌+◌, ◌<◌, List, [], ◌∷◌, ◌++◌, length, Option, Some, None}
-use Rattle.axis_cursor.specs.RowAxes.{size_at}
+use Rattle.node_table.specs.Laid.{size_at}
 use Rattle.tree_model.specs.declared.axis.Axis.{Axis}
 use Rattle.tree_model.specs.declared.row.Row.{Row}
 use Rattle.axis_steps.specs.Steps.{Has, Keeps, IsTreeEnd}

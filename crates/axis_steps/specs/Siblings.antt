@@ -1,7 +1,8 @@
 -- Children that are kept for the siblings of others.
 use Rattle.std.specs.Prelude.{◌≡◌, ◌⊎◌, ℕ, ◌-◌, ◌<◌, ◌≤◌, Bool, true, false, List, [], ◌∷◌, ◌++◌, length, take, Option, Some, None}
 use Rattle.std.specs.List.{Contains}
-use Rattle.axis_cursor.specs.RowAxes.{is_attribute, is_child, up, stands_on}
+use Rattle.node_table.specs.Laid.{is_attribute, up}
+use Rattle.axis_cursor.specs.RowAxes.{is_child, stands_on}
 use Rattle.tree_model.specs.declared.axis.Axis.{Axis}
 use Rattle.tree_model.specs.declared.axis.Axis.TheVariants.{FollowingSibling, PrecedingSibling}
 use Rattle.tree_model.specs.declared.row.Row.{Row}

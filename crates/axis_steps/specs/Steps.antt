@@ -2,8 +2,10 @@
 use Rattle.std.specs.Prelude.{◌≡◌, ◌⊎◌, ◌↔◌, ℕ, ◌<◌, ◌≤◌, true, false, List, [], ◌∷◌, filter, length, Option, Some, None}
 use denote.Ref.{Bor}
 use Rattle.std.specs.List.{All}
-use Rattle.axis_cursor.specs.RowAxes.{row_places, row_passes, is_attr_at, stands_on, is_in, root_of}
-use Rattle.axis_cursor.specs.Trees.{AreTrees, step_places}
+use Rattle.node_table.specs.Laid.{IsLaid, is_attr_at}
+use Rattle.node_table.specs.Tables.{rows_in}
+use Rattle.axis_cursor.specs.RowAxes.{row_places, row_passes, stands_on, is_in, root_of}
+use Rattle.axis_cursor.specs.Trees.{step_places}
 use Rattle.tree_model.specs.Forest.{Forest}
 use Rattle.tree_model.specs.Labels.{Label}
 use Rattle.tree_model.specs.declared.axis.Axis.{Axis}
@@ -13,11 +15,11 @@ use Rattle.tree_model.specs.declared.axis.AxisStep.{AxisStep}
 use Rattle.tree_model.specs.declared.row.Row.{Row}
 use Rattle.tree_model.specs.declared.text.Name.{Name}
 use Rattle.axis_steps.specs.declared.trees.Step.{Step}
+use Rattle.axis_steps.specs.declared.trees.Trees.{Trees}
 
--- the rows are those of trees with some values, and have their names
-pub record IsStanding (names : List Name) (rows : List Row) : Type 0 where
-  pub trees : (values : List ℕ) × AreTrees names values rows
-  pub named : All (λ (row : Row). row.name < length names) rows
+-- the rows of trees
+abbrev pub rows_of : Trees → List Row
+rows_of trees = rows_in trees.pool.now trees.table.now
 
 -- the places that steps lead to from others
 abbrev pub path_places : Forest Label → List AxisStep → List ℕ → List ℕ
@@ -25,6 +27,11 @@ path_places f [] places = places
 path_places f (step ∷ steps) places = path_places f steps (step_places f step.axis step.test places)
 
 -- ---- by rows
+
+-- the rows are laid as those of trees are, and have their names
+pub record IsStanding (names : List Name) (rows : List Row) : Type 0 where
+  pub laid : IsLaid rows
+  pub named : All (λ (row : Row). row.name < length names) rows
 
 -- the places of an axis that pass, in the axis's own order
 abbrev pub axis_list : List Name → List Row → Step → ℕ → List ℕ

@@ -4,13 +4,14 @@ ghost use Rattle.std.specs.Prelude.{◌≡◌, ◌<◌, ◌≤◌, ◌∷◌, �
 ghost use Rattle.std.specs.Bool.{Decides};
 ghost use Rattle.std.specs.List.{All};
 ghost use Rattle.tree_model.specs.declared.axis.Axis.TheVariants.{Descendant, DescendantOrSelf, Following, Preceding};
-ghost use Rattle.axis_cursor.specs.RowAxes.{is_attribute};
+ghost use Rattle.node_table.specs.Laid.{IsLaid, is_attribute};
 ghost use Rattle.frame_pool.specs.Meters.{HasRead};
 ghost use Rattle.axis_steps.specs.Keeping.{IsOpen, IsEnded, IsLatest, ended_places, latest_places, KeepsOn};
-ghost use Rattle.axis_steps.specs.Steps.{IsStanding, Keeps, IsTreeEnd};
+ghost use Rattle.axis_steps.specs.Steps.{Keeps, IsTreeEnd};
 
-use crate::trees::Trees;
+use axis_cursor::row_at;
 use frame_pool::Meter;
+use node_table::RowReader;
 use std::alloc::Global;
 use tree_model::{Kind, NoMemory, Row};
 
@@ -36,20 +37,21 @@ struct Outermost {
 
 // Keeps a node, unless it stands in that subtree and is no attribute.
 fn keep_unless_inside(
-    trees: &Trees<'_>,
+    reader: &mut RowReader<'_>,
     place: u32,
     nodes: &mut Outermost,
     meter: &mut Meter,
 ) -> Result<(), NoMemory>
-    requires trees { IsStanding trees.now.names.now trees.now.table.now }
-    requires within { place < length trees.now.table.now }
-    requires open { IsOpen trees.now.table.now nodes.old.kept.items nodes.old.start nodes.old.end }
-    ensures open { OnOk result (IsOpen trees.now.table.now nodes.new.kept.items nodes.new.start nodes.new.end) }
-    ensures below { OnOk result (KeepsOn trees.now.table.now Descendant place nodes.old.kept.items nodes.new.kept.items) }
-    ensures or_self { OnOk result (KeepsOn trees.now.table.now DescendantOrSelf place nodes.old.kept.items nodes.new.kept.items) }
+    requires laid { IsLaid reader.old }
+    requires within { place < length reader.old }
+    requires open { IsOpen reader.old nodes.old.kept.items nodes.old.start nodes.old.end }
+    ensures open { OnOk result (IsOpen reader.old nodes.new.kept.items nodes.new.start nodes.new.end) }
+    ensures below { OnOk result (KeepsOn reader.old Descendant place nodes.old.kept.items nodes.new.kept.items) }
+    ensures or_self { OnOk result (KeepsOn reader.old DescendantOrSelf place nodes.old.kept.items nodes.new.kept.items) }
+    ensures rows { reader.new ≡ reader.old }
     ensures meter { HasRead meter.old meter.new }
 {
-    let row = trees.row(place, meter);
+    let row = row_at(reader, place, meter);
     if !is_between(place, nodes.start, nodes.end) {
         nodes.kept.push(place)?;
         nodes.start = place;
@@ -65,14 +67,15 @@ fn keep_unless_inside(
 /// For descendants: without the nodes inside the one kept before, but for attributes.
 pub(crate) fn keep_outermost(
     alloc: Global,
-    trees: &Trees<'_>,
+    reader: &mut RowReader<'_>,
     places: &[u32],
     meter: &mut Meter,
 ) -> Result<Vec<u32>, NoMemory>
-    requires trees { IsStanding trees.now.names.now trees.now.table.now }
-    requires within { All (λ place. place < length trees.now.table.now) places.now }
-    ensures below { IfOk result (λ kept. Keeps trees.now.table.now Descendant places.now kept.items) }
-    ensures or_self { IfOk result (λ kept. Keeps trees.now.table.now DescendantOrSelf places.now kept.items) }
+    requires laid { IsLaid reader.old }
+    requires within { All (λ place. place < length reader.old) places.now }
+    ensures below { IfOk result (λ kept. Keeps reader.old Descendant places.now kept.items) }
+    ensures or_self { IfOk result (λ kept. Keeps reader.old DescendantOrSelf places.now kept.items) }
+    ensures rows { reader.new ≡ reader.old }
     ensures meter { HasRead meter.old meter.new }
 {
     let mut nodes = Outermost {
@@ -81,23 +84,24 @@ pub(crate) fn keep_outermost(
         end: 0,
     };
     for place in places {
-        keep_unless_inside(trees, *place, &mut nodes, meter)?;
+        keep_unless_inside(reader, *place, &mut nodes, meter)?;
     }
     Ok(nodes.kept)
 }
 
 // The place behind the tree in which a node stands.
-fn end_of_tree(trees: &Trees<'_>, place: u32, meter: &mut Meter) -> u32
-    requires trees { IsStanding trees.now.names.now trees.now.table.now }
-    requires within { place < length trees.now.table.now }
-    ensures end { IsTreeEnd trees.now.table.now place result }
+fn end_of_tree(reader: &mut RowReader<'_>, place: u32, meter: &mut Meter) -> u32
+    requires laid { IsLaid reader.old }
+    requires within { place < length reader.old }
+    ensures end { IsTreeEnd reader.old place result }
+    ensures rows { reader.new ≡ reader.old }
     ensures meter { HasRead meter.old meter.new }
 {
     let mut at = place;
-    let mut row = trees.row(place, meter);
+    let mut row = row_at(reader, place, meter);
     while row.dist != 0 {
         at -= row.dist;
-        row = trees.row(at, meter);
+        row = row_at(reader, at, meter);
     }
     at + row.size
 }
@@ -112,22 +116,23 @@ struct Ended {
 
 // Keeps the subtree that ends first, or puts another in its place: one inside it ends before it, one behind it in its tree after it.
 fn keep_first_end(
-    trees: &Trees<'_>,
+    reader: &mut RowReader<'_>,
     place: u32,
     last: Option<Ended>,
     kept: &mut Vec<u32>,
     meter: &mut Meter,
 ) -> Result<Ended, NoMemory>
-    requires trees { IsStanding trees.now.names.now trees.now.table.now }
-    requires within { place < length trees.now.table.now }
-    requires last { IsEnded trees.now.table.now last }
-    ensures last { IfOk result (λ new. IsEnded trees.now.table.now (Some new)) }
-    ensures keeps { IfOk result (λ new. KeepsOn trees.now.table.now Following place (ended_places last kept.old.items) (ended_places (Some new) kept.new.items)) }
+    requires laid { IsLaid reader.old }
+    requires within { place < length reader.old }
+    requires last { IsEnded reader.old last }
+    ensures last { IfOk result (λ new. IsEnded reader.old (Some new)) }
+    ensures keeps { IfOk result (λ new. KeepsOn reader.old Following place (ended_places last kept.old.items) (ended_places (Some new) kept.new.items)) }
+    ensures rows { reader.new ≡ reader.old }
     ensures meter { HasRead meter.old meter.new }
 {
-    let end = place + trees.row(place, meter).size;
+    let end = place + row_at(reader, place, meter).size;
     let Some(last) = last else {
-        let tree_end = end_of_tree(trees, place, meter);
+        let tree_end = end_of_tree(reader, place, meter);
         return Ok(Ended {
             start: place,
             end,
@@ -145,7 +150,7 @@ fn keep_first_end(
         return Ok(last);
     }
     kept.push(last.start)?;
-    let tree_end = end_of_tree(trees, place, meter);
+    let tree_end = end_of_tree(reader, place, meter);
     Ok(Ended {
         start: place,
         end,
@@ -156,19 +161,20 @@ fn keep_first_end(
 /// For what follows: of each tree the node whose subtree ends first.
 pub(crate) fn keep_first_ended(
     alloc: Global,
-    trees: &Trees<'_>,
+    reader: &mut RowReader<'_>,
     places: &[u32],
     meter: &mut Meter,
 ) -> Result<Vec<u32>, NoMemory>
-    requires trees { IsStanding trees.now.names.now trees.now.table.now }
-    requires within { All (λ place. place < length trees.now.table.now) places.now }
-    ensures kept { IfOk result (λ kept. Keeps trees.now.table.now Following places.now kept.items) }
+    requires laid { IsLaid reader.old }
+    requires within { All (λ place. place < length reader.old) places.now }
+    ensures kept { IfOk result (λ kept. Keeps reader.old Following places.now kept.items) }
+    ensures rows { reader.new ≡ reader.old }
     ensures meter { HasRead meter.old meter.new }
 {
     let mut kept = Vec::new(alloc);
     let mut last = None;
     for place in places {
-        last = Some(keep_first_end(trees, *place, last, &mut kept, meter)?);
+        last = Some(keep_first_end(reader, *place, last, &mut kept, meter)?);
     }
     match last {
         None => Ok(kept),
@@ -188,21 +194,22 @@ struct Latest {
 
 // Keeps the last node, or puts one in its place that stands further on in its tree.
 fn keep_latest(
-    trees: &Trees<'_>,
+    reader: &mut RowReader<'_>,
     place: u32,
     last: Option<Latest>,
     kept: &mut Vec<u32>,
     meter: &mut Meter,
 ) -> Result<Latest, NoMemory>
-    requires trees { IsStanding trees.now.names.now trees.now.table.now }
-    requires within { place < length trees.now.table.now }
-    requires last { IsLatest trees.now.table.now last }
-    ensures last { IfOk result (λ new. IsLatest trees.now.table.now (Some new)) }
-    ensures keeps { IfOk result (λ new. KeepsOn trees.now.table.now Preceding place (latest_places last kept.old.items) (latest_places (Some new) kept.new.items)) }
+    requires laid { IsLaid reader.old }
+    requires within { place < length reader.old }
+    requires last { IsLatest reader.old last }
+    ensures last { IfOk result (λ new. IsLatest reader.old (Some new)) }
+    ensures keeps { IfOk result (λ new. KeepsOn reader.old Preceding place (latest_places last kept.old.items) (latest_places (Some new) kept.new.items)) }
+    ensures rows { reader.new ≡ reader.old }
     ensures meter { HasRead meter.old meter.new }
 {
     let Some(last) = last else {
-        let tree_end = end_of_tree(trees, place, meter);
+        let tree_end = end_of_tree(reader, place, meter);
         return Ok(Latest { place, tree_end });
     };
     if is_between(place, last.place, last.tree_end) {
@@ -212,26 +219,27 @@ fn keep_latest(
         });
     }
     kept.push(last.place)?;
-    let tree_end = end_of_tree(trees, place, meter);
+    let tree_end = end_of_tree(reader, place, meter);
     Ok(Latest { place, tree_end })
 }
 
 /// For what precedes: of each tree the last node.
 pub(crate) fn keep_last(
     alloc: Global,
-    trees: &Trees<'_>,
+    reader: &mut RowReader<'_>,
     places: &[u32],
     meter: &mut Meter,
 ) -> Result<Vec<u32>, NoMemory>
-    requires trees { IsStanding trees.now.names.now trees.now.table.now }
-    requires within { All (λ place. place < length trees.now.table.now) places.now }
-    ensures kept { IfOk result (λ kept. Keeps trees.now.table.now Preceding places.now kept.items) }
+    requires laid { IsLaid reader.old }
+    requires within { All (λ place. place < length reader.old) places.now }
+    ensures kept { IfOk result (λ kept. Keeps reader.old Preceding places.now kept.items) }
+    ensures rows { reader.new ≡ reader.old }
     ensures meter { HasRead meter.old meter.new }
 {
     let mut kept = Vec::new(alloc);
     let mut last = None;
     for place in places {
-        last = Some(keep_latest(trees, *place, last, &mut kept, meter)?);
+        last = Some(keep_latest(reader, *place, last, &mut kept, meter)?);
     }
     match last {
         None => Ok(kept),

@@ -4,12 +4,14 @@
 mod below;
 mod climb;
 mod keep;
+mod laws;
 mod order;
 mod siblings;
 mod steps;
 mod trees;
 mod walk;
 
+pub use laws::children_of_all_are_descendants;
 pub use steps::{path, step};
 pub use trees::Trees;
 

@@ -3,13 +3,15 @@ ghost use Rattle.std.specs.Prelude.{◌≡◌, ◌<◌, ◌≤◌, ℕ, length, 
 ghost use Rattle.std.specs.List.{All, Contains};
 ghost use Rattle.tree_model.specs.declared.axis.Axis.TheVariants.{FollowingSibling, PrecedingSibling};
 ghost use Rattle.frame_pool.specs.Meters.{HasRead};
-ghost use Rattle.axis_steps.specs.Steps.{IsStanding, Keeps};
+ghost use Rattle.node_table.specs.Laid.{IsLaid};
+ghost use Rattle.axis_steps.specs.Steps.{Keeps};
 ghost use Rattle.axis_steps.specs.Siblings.{IsChildAt, IsKept, DoesFor, HasTaken, TakesIn};
 ghost use Rattle.axis_steps.specs.declared.siblings.Child.{Child};
 
 use crate::keep::is_attribute;
-use crate::trees::Trees;
+use axis_cursor::row_at;
 use frame_pool::Meter;
+use node_table::RowReader;
 use std::alloc::Global;
 use tree_model::{NoMemory, Row};
 
@@ -92,20 +94,21 @@ fn take_child(child: &Child, is_forward: bool, children: &mut Children) -> Resul
 
 // Takes a node in. One that is no child has no siblings.
 fn take_in(
-    trees: &Trees<'_>,
+    reader: &mut RowReader<'_>,
     place: u32,
     is_forward: bool,
     children: &mut Children,
     meter: &mut Meter,
 ) -> Result<(), NoMemory>
-    requires trees { IsStanding trees.now.names.now trees.now.table.now }
-    requires within { place < length trees.now.table.now }
-    requires last { All (IsKept trees.now.table.now children.old.kept.items) children.old.last.items }
-    ensures last { OnOk result (All (IsKept trees.now.table.now children.new.kept.items) children.new.last.items) }
-    ensures taken { OnOk result (TakesIn trees.now.table.now is_forward place children.old.kept.items children.new.kept.items) }
+    requires laid { IsLaid reader.old }
+    requires within { place < length reader.old }
+    requires last { All (IsKept reader.old children.old.kept.items) children.old.last.items }
+    ensures last { OnOk result (All (IsKept reader.old children.new.kept.items) children.new.last.items) }
+    ensures taken { OnOk result (TakesIn reader.old is_forward place children.old.kept.items children.new.kept.items) }
+    ensures rows { reader.new ≡ reader.old }
     ensures meter { HasRead meter.old meter.new }
 {
-    let row = trees.row(place, meter);
+    let row = row_at(reader, place, meter);
     match child_at(place, &row) {
         None => Ok(()),
         Some(child) => take_child(&child, is_forward, children),
@@ -115,13 +118,14 @@ fn take_in(
 /// For following siblings: the first node of each parent.
 pub(crate) fn keep_first_children(
     alloc: Global,
-    trees: &Trees<'_>,
+    reader: &mut RowReader<'_>,
     places: &[u32],
     meter: &mut Meter,
 ) -> Result<Vec<u32>, NoMemory>
-    requires trees { IsStanding trees.now.names.now trees.now.table.now }
-    requires within { All (λ place. place < length trees.now.table.now) places.now }
-    ensures kept { IfOk result (λ kept. Keeps trees.now.table.now FollowingSibling places.now kept.items) }
+    requires laid { IsLaid reader.old }
+    requires within { All (λ place. place < length reader.old) places.now }
+    ensures kept { IfOk result (λ kept. Keeps reader.old FollowingSibling places.now kept.items) }
+    ensures rows { reader.new ≡ reader.old }
     ensures meter { HasRead meter.old meter.new }
 {
     let mut children = Children {
@@ -129,7 +133,7 @@ pub(crate) fn keep_first_children(
         last: Vec::new(alloc),
     };
     for place in places {
-        take_in(trees, *place, true, &mut children, meter)?;
+        take_in(reader, *place, true, &mut children, meter)?;
     }
     Ok(children.kept)
 }
@@ -137,13 +141,14 @@ pub(crate) fn keep_first_children(
 /// For preceding siblings: the last node of each parent.
 pub(crate) fn keep_last_children(
     alloc: Global,
-    trees: &Trees<'_>,
+    reader: &mut RowReader<'_>,
     places: &[u32],
     meter: &mut Meter,
 ) -> Result<Vec<u32>, NoMemory>
-    requires trees { IsStanding trees.now.names.now trees.now.table.now }
-    requires within { All (λ place. place < length trees.now.table.now) places.now }
-    ensures kept { IfOk result (λ kept. Keeps trees.now.table.now PrecedingSibling places.now kept.items) }
+    requires laid { IsLaid reader.old }
+    requires within { All (λ place. place < length reader.old) places.now }
+    ensures kept { IfOk result (λ kept. Keeps reader.old PrecedingSibling places.now kept.items) }
+    ensures rows { reader.new ≡ reader.old }
     ensures meter { HasRead meter.old meter.new }
 {
     let mut children = Children {
@@ -153,7 +158,7 @@ pub(crate) fn keep_last_children(
     let mut at = places.len();
     while at > 0 {
         at -= 1;
-        take_in(trees, places[at], false, &mut children, meter)?;
+        take_in(reader, places[at], false, &mut children, meter)?;
     }
     Ok(children.kept)
 }

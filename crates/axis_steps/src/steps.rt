@@ -2,8 +2,11 @@
 ghost use Rattle.std.specs.Prelude.{◌≡◌, ◌⊎◌, ◌<◌, ℕ, List, length, IfOk, IfSome, IsTrue};
 ghost use Rattle.std.specs.List.{All};
 ghost use Rattle.frame_pool.specs.Meters.{HasRead};
-ghost use Rattle.axis_cursor.specs.Trees.{AreTrees, forest_of, step_places};
-ghost use Rattle.axis_steps.specs.Steps.{IsStanding, HasReached, Keeps, IsFirstStep, path_places};
+ghost use Rattle.node_table.specs.Laid.{IsLaid};
+ghost use Rattle.node_table.specs.Tables.{IsIn};
+ghost use Rattle.node_table.specs.Views.{view_of, view_forest, KeepsTrees};
+ghost use Rattle.axis_cursor.specs.Trees.{step_places};
+ghost use Rattle.axis_steps.specs.Steps.{rows_of, HasReached, Keeps, IsFirstStep, path_places};
 ghost use Rattle.tree_model.specs.declared.axis.Axis.TheVariants.{Descendant, DescendantOrSelf, Ancestor, AncestorOrSelf};
 ghost use Rattle.tree_model.specs.declared.axis.Test.TheVariants.{Node};
 
@@ -15,27 +18,29 @@ use crate::siblings::{keep_first_children, keep_last_children};
 use crate::trees::{Step, Trees};
 use crate::walk::walk_each;
 use frame_pool::Meter;
+use node_table::RowReader;
 use std::alloc::Global;
 use tree_model::{Axis, AxisStep, NoMemory, Test};
 
 // Those of the nodes whose axes are walked, where not all are.
 fn keep(
     alloc: Global,
-    trees: &Trees<'_>,
+    reader: &mut RowReader<'_>,
     places: &[u32],
     axis: Axis,
     meter: &mut Meter,
 ) -> Result<Option<Vec<u32>>, NoMemory>
-    requires trees { IsStanding trees.now.names.now trees.now.table.now }
-    requires within { All (λ place. place < length trees.now.table.now) places.now }
-    ensures keeps { IfOk result (λ kept. IfSome kept (λ some. Keeps trees.now.table.now axis places.now some.items)) }
+    requires laid { IsLaid reader.old }
+    requires within { All (λ place. place < length reader.old) places.now }
+    ensures keeps { IfOk result (λ kept. IfSome kept (λ some. Keeps reader.old axis places.now some.items)) }
+    ensures rows { reader.new ≡ reader.old }
     ensures meter { HasRead meter.old meter.new }
 {
     match axis {
-        Axis::FollowingSibling => Ok(Some(keep_first_children(alloc, trees, places, meter)?)),
-        Axis::PrecedingSibling => Ok(Some(keep_last_children(alloc, trees, places, meter)?)),
-        Axis::Following => Ok(Some(keep_first_ended(alloc, trees, places, meter)?)),
-        Axis::Preceding => Ok(Some(keep_last(alloc, trees, places, meter)?)),
+        Axis::FollowingSibling => Ok(Some(keep_first_children(alloc, reader, places, meter)?)),
+        Axis::PrecedingSibling => Ok(Some(keep_last_children(alloc, reader, places, meter)?)),
+        Axis::Following => Ok(Some(keep_first_ended(alloc, reader, places, meter)?)),
+        Axis::Preceding => Ok(Some(keep_last(alloc, reader, places, meter)?)),
         _ => Ok(None),
     }
 }
@@ -68,19 +73,21 @@ fn reached(
     step: &Step<'_>,
     meter: &mut Meter,
 ) -> Result<Vec<u32>, NoMemory>
-    requires trees { IsStanding trees.now.names.now trees.now.table.now }
-    requires within { All (λ place. place < length trees.now.table.now) places.now }
-    ensures reached { IfOk result (λ found. HasReached trees.now.names.now trees.now.table.now step.now places.now found.items) }
+    requires held { IsIn trees.now.pool.now trees.now.table.now }
+    requires trees { (values : List ℕ) × KeepsTrees (view_of (rows_of trees.now) trees.now.names.now values) }
+    requires within { All (λ place. place < length (rows_of trees.now)) places.now }
+    ensures reached { IfOk result (λ found. HasReached trees.now.names.now (rows_of trees.now) step.now places.now found.items) }
     ensures meter { HasRead meter.old meter.new }
 {
+    let mut reader = trees.table.reader(trees.pool);
     if is_upwards(step.axis) {
-        return Ok(climb_each(alloc, trees, places, step, meter)?);
+        return Ok(climb_each(alloc, trees.names, &mut reader, places, step, meter)?);
     }
     if is_downwards(step.axis) {
-        let kept = keep_outermost(alloc, trees, places, meter)?;
-        return Ok(below_each(alloc, trees, &kept, step, meter)?);
+        let kept = keep_outermost(alloc, &mut reader, places, meter)?;
+        return Ok(below_each(alloc, trees.names, &mut reader, &kept, step, meter)?);
     }
-    match keep(alloc, trees, places, step.axis, meter)? {
+    match keep(alloc, &mut reader, places, step.axis, meter)? {
         None => Ok(walk_each(alloc, trees, places, step, meter)?),
         Some(kept) => Ok(walk_each(alloc, trees, &kept, step, meter)?),
     }
@@ -97,11 +104,12 @@ pub fn step(
     test: &Test,
     meter: &mut Meter,
 ) -> Result<Vec<u32>, NoMemory>
-    requires trees { IsStanding trees.now.names.now trees.now.table.now }
-    requires within { All (λ place. place < length trees.now.table.now) places.now }
-    ensures step { IfOk result (λ found. (values : List ℕ) → AreTrees trees.now.names.now values trees.now.table.now
-        → found.items ≡ step_places (forest_of trees.now.names.now values trees.now.table.now) axis test.now places.now) }
-    ensures within { IfOk result (λ found. All (λ place. place < length trees.now.table.now) found.items) }
+    requires held { IsIn trees.now.pool.now trees.now.table.now }
+    requires trees { (values : List ℕ) × KeepsTrees (view_of (rows_of trees.now) trees.now.names.now values) }
+    requires within { All (λ place. place < length (rows_of trees.now)) places.now }
+    ensures step { IfOk result (λ found. (values : List ℕ) → KeepsTrees (view_of (rows_of trees.now) trees.now.names.now values)
+        → found.items ≡ step_places (view_forest (view_of (rows_of trees.now) trees.now.names.now values)) axis test.now places.now) }
+    ensures within { IfOk result (λ found. All (λ place. place < length (rows_of trees.now)) found.items) }
     ensures meter { HasRead meter.old meter.new }
 {
     let mut found = reached(alloc, trees, places, &Step { axis, test }, meter)?;
@@ -147,10 +155,11 @@ pub fn path(
     steps: &[AxisStep],
     meter: &mut Meter,
 ) -> Result<Vec<u32>, NoMemory>
-    requires trees { IsStanding trees.now.names.now trees.now.table.now }
-    requires within { All (λ place. place < length trees.now.table.now) places.items }
-    ensures path { IfOk result (λ found. (values : List ℕ) → AreTrees trees.now.names.now values trees.now.table.now
-        → found.items ≡ path_places (forest_of trees.now.names.now values trees.now.table.now) steps.now places.items) }
+    requires held { IsIn trees.now.pool.now trees.now.table.now }
+    requires trees { (values : List ℕ) × KeepsTrees (view_of (rows_of trees.now) trees.now.names.now values) }
+    requires within { All (λ place. place < length (rows_of trees.now)) places.items }
+    ensures path { IfOk result (λ found. (values : List ℕ) → KeepsTrees (view_of (rows_of trees.now) trees.now.names.now values)
+        → found.items ≡ path_places (view_forest (view_of (rows_of trees.now) trees.now.names.now values)) steps.now places.items) }
     ensures meter { HasRead meter.old meter.new }
 {
     let mut places = places;

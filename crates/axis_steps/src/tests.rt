@@ -1,6 +1,8 @@
-ghost use Rattle.std.specs.Prelude.{◌≡◌, ◌<◌, ◌≤◌, ◌^◌, List, length, IfOk, IsTrue};
+ghost use Rattle.std.specs.Prelude.{◌≡◌, ◌<◌, ◌≤◌, ◌^◌, List, [], length, IfOk, IsTrue};
 ghost use Rattle.std.specs.List.{All};
-ghost use Rattle.axis_steps.specs.Steps.{IsStanding};
+ghost use Rattle.node_table.specs.Tables.{rows_in, IsIn};
+ghost use Rattle.node_table.specs.Views.{view_of, KeepsTrees};
+ghost use Rattle.axis_steps.specs.Steps.{rows_of};
 ghost use Rattle.tree_model.specs.declared.text.Name.{Name};
 
 use super::*;
@@ -126,22 +128,23 @@ fn names(alloc: Global) -> Result<NamePool, Fail>
 }
 
 // A table of these rows.
-fn table(alloc: Global, rows: &[Row]) -> Result<NodeTable, NoMemory>
+fn table(alloc: Global, pool: &mut Pool<Row>, rows: &[Row]) -> Result<NodeTable, NoMemory>
     requires { length rows.now ≤ 2 ^ 24 }
-    ensures { IfOk result (λ table. table ≡ rows.now) }
+    ensures rows { IfOk result (λ table. rows_in pool.new table ≡ rows.now) }
+    ensures held { IfOk result (λ table. IsIn pool.new table) }
 {
     let mut table = NodeTable::new(alloc);
-    let rows = rows.to_vec(alloc)?;
-    table.insert_documents(&mut Pool::new(), 0, rows)?;
+    table.insert_documents(pool, 0, rows.to_vec(alloc)?)?;
     Ok(table)
 }
 
 // The two documents.
-fn documents(alloc: Global) -> Result<NodeTable, NoMemory>
-    ensures trees { IfOk result (λ table. (names : List Name) → length names ≡ 6 → IsStanding names table) }
-    ensures len { IfOk result (λ table. length table ≡ 16) }
+fn documents(alloc: Global, pool: &mut Pool<Row>) -> Result<NodeTable, NoMemory>
+    ensures held { IfOk result (λ table. IsIn pool.new table) }
+    ensures trees { IfOk result (λ table. (names : List Name) → length names ≡ 6 → KeepsTrees (view_of (rows_in pool.new table) names [])) }
+    ensures len { IfOk result (λ table. length (rows_in pool.new table) ≡ 16) }
 {
-    let table = table(alloc, &ROWS)?;
+    let table = table(alloc, pool, &ROWS)?;
     Ok(table)
 }
 
@@ -262,8 +265,9 @@ const AXES: [Axis; 12] = [
 
 // Every axis leads from these nodes to what it should.
 fn check_axes(rt: &impl Abort, alloc: Global, trees: &Trees<'_>, places: &[u32]) -> Result<(), Fail>
-    requires trees { IsStanding trees.now.names.now trees.now.table.now }
-    requires len { length trees.now.table.now ≡ 16 }
+    requires held { IsIn trees.now.pool.now trees.now.table.now }
+    requires trees { KeepsTrees (view_of (rows_of trees.now) trees.now.names.now []) }
+    requires len { length (rows_of trees.now) ≡ 16 }
 {
     if !are_below(places, 16) {
         return Err(Fail::from("no such place"));
@@ -302,8 +306,8 @@ fn check_lists(
     requires { 0 < apart }
 {
     let names = names(alloc)?;
-    let table = documents(alloc)?;
-    let pool = Pool::new();
+    let mut pool = Pool::new(alloc);
+    let table = documents(alloc, &mut pool)?;
     let trees = Trees {
         table: &table,
         pool: &pool,
@@ -326,8 +330,8 @@ fn every_axis_from_up_to_three_nodes(rt: HostRuntime) -> Result<(), Fail> {
 #[test]
 fn every_axis_from_many_nodes(rt: HostRuntime) -> Result<(), Fail> {
     let names = names(rt.alloc())?;
-    let table = documents(rt.alloc())?;
-    let pool = Pool::new();
+    let mut pool = Pool::new(rt.alloc());
+    let table = documents(rt.alloc(), &mut pool)?;
     let trees = Trees {
         table: &table,
         pool: &pool,
@@ -374,8 +378,8 @@ fn behind_each(alloc: Global, axis: Axis, test: Test) -> Result<Vec<AxisStep>, N
 // What steps lead to from both documents, the second one first.
 fn path_from(alloc: Global, steps: &[AxisStep]) -> Result<Vec<u32>, Fail> {
     let names = names(alloc)?;
-    let table = documents(alloc)?;
-    let pool = Pool::new();
+    let mut pool = Pool::new(alloc);
+    let table = documents(alloc, &mut pool)?;
     let trees = Trees {
         table: &table,
         pool: &pool,
@@ -415,7 +419,7 @@ fn paths(rt: HostRuntime) -> Result<(), Fail> {
 // the last one has only a `b`.
 fn nested(alloc: Global, count: u32) -> Result<Vec<Row>, NoMemory>
     requires { count ≤ 10000 }
-    ensures trees { IfOk result (λ rows. (names : List Name) → length names ≡ 6 → IsStanding names rows.items) }
+    ensures trees { IfOk result (λ rows. (names : List Name) → length names ≡ 6 → KeepsTrees (view_of rows.items names [])) }
     ensures few { IfOk result (λ rows. length rows.items ≤ 2 ^ 24) }
     ensures some { IfOk result (λ rows. 0 < length rows.items) }
 {
@@ -449,7 +453,7 @@ fn nested(alloc: Global, count: u32) -> Result<Vec<Row>, NoMemory>
 // The rows of a document with an element `a`, which has `count` elements `b`, each with a `b` in it.
 fn side_by_side(alloc: Global, count: u32) -> Result<Vec<Row>, NoMemory>
     requires { count ≤ 10000 }
-    ensures trees { IfOk result (λ rows. (names : List Name) → length names ≡ 6 → IsStanding names rows.items) }
+    ensures trees { IfOk result (λ rows. (names : List Name) → length names ≡ 6 → KeepsTrees (view_of rows.items names [])) }
     ensures few { IfOk result (λ rows. length rows.items ≤ 2 ^ 24) }
     ensures some { IfOk result (λ rows. 0 < length rows.items) }
 {
@@ -481,13 +485,13 @@ fn side_by_side(alloc: Global, count: u32) -> Result<Vec<Row>, NoMemory>
 
 // How many nodes steps lead to from a document. Each row is read a few times at the most.
 fn count_of(rt: &impl Abort, alloc: Global, rows: &[Row], steps: &[AxisStep]) -> Result<usize, Fail>
-    requires trees { (names : List Name) → length names ≡ 6 → IsStanding names rows.now }
+    requires trees { (names : List Name) → length names ≡ 6 → KeepsTrees (view_of rows.now names []) }
     requires few { length rows.now ≤ 2 ^ 24 }
     requires some { 0 < length rows.now }
 {
     let names = names(alloc)?;
-    let table = table(alloc, rows)?;
-    let pool = Pool::new();
+    let mut pool = Pool::new(alloc);
+    let table = table(alloc, &mut pool, rows)?;
     let trees = Trees {
         table: &table,
         pool: &pool,

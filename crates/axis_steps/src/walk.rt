@@ -1,8 +1,10 @@
 // One axis after the other.
-ghost use Rattle.std.specs.Prelude.{◌≡◌, ◌<◌, ◌++◌, length, IfOk, OnOk};
+ghost use Rattle.std.specs.Prelude.{◌≡◌, ◌<◌, ◌++◌, ℕ, List, length, IfOk, OnOk};
 ghost use Rattle.std.specs.List.{All, flat_map};
 ghost use Rattle.frame_pool.specs.Meters.{HasRead};
-ghost use Rattle.axis_steps.specs.Steps.{IsStanding, axis_list};
+ghost use Rattle.node_table.specs.Tables.{IsIn};
+ghost use Rattle.node_table.specs.Views.{view_of, KeepsTrees};
+ghost use Rattle.axis_steps.specs.Steps.{rows_of, axis_list};
 
 use crate::trees::{Step, Trees};
 use axis_cursor::Cursor;
@@ -18,9 +20,10 @@ fn push_axis(
     found: &mut Vec<u32>,
     meter: &mut Meter,
 ) -> Result<(), NoMemory>
-    requires trees { IsStanding trees.now.names.now trees.now.table.now }
-    requires within { place < length trees.now.table.now }
-    ensures list { OnOk result (found.new.items ≡ found.old.items ++ axis_list trees.now.names.now trees.now.table.now step.now place) }
+    requires held { IsIn trees.now.pool.now trees.now.table.now }
+    requires trees { (values : List ℕ) × KeepsTrees (view_of (rows_of trees.now) trees.now.names.now values) }
+    requires within { place < length (rows_of trees.now) }
+    ensures list { OnOk result (found.new.items ≡ found.old.items ++ axis_list trees.now.names.now (rows_of trees.now) step.now place) }
     ensures meter { HasRead meter.old meter.new }
 {
     let mut cursor = Cursor::new(
@@ -45,9 +48,10 @@ pub(crate) fn walk_each(
     step: &Step<'_>,
     meter: &mut Meter,
 ) -> Result<Vec<u32>, NoMemory>
-    requires trees { IsStanding trees.now.names.now trees.now.table.now }
-    requires within { All (λ place. place < length trees.now.table.now) places.now }
-    ensures list { IfOk result (λ found. found.items ≡ flat_map (axis_list trees.now.names.now trees.now.table.now step.now) places.now) }
+    requires held { IsIn trees.now.pool.now trees.now.table.now }
+    requires trees { (values : List ℕ) × KeepsTrees (view_of (rows_of trees.now) trees.now.names.now values) }
+    requires within { All (λ place. place < length (rows_of trees.now)) places.now }
+    ensures list { IfOk result (λ found. found.items ≡ flat_map (axis_list trees.now.names.now (rows_of trees.now) step.now) places.now) }
     ensures meter { HasRead meter.old meter.new }
 {
     let mut found = Vec::new(alloc);

@@ -6,3 +6,4 @@ pub mod Answering
 pub mod Fitting
 pub mod ReadLoop
 pub mod Documents
+pub mod ReadKinds

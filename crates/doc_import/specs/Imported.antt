@@ -1,26 +1,25 @@
 -- What an import gives.
 use Rattle.std.specs.Prelude.{ℕ, Bool, List, Result, Ok, Err, ⊤}
-use Rattle.tree_model.specs.Forest.{Forest, Line, grove_of, IsFlat}
+use Rattle.tree_model.specs.Forest.{Forest}
 use Rattle.tree_model.specs.Labels.{Label}
-use Rattle.tree_model.specs.Rows.{lines_of, ArePlaced}
+use Rattle.node_table.specs.Views.{part_view, view_forest, KeepsTrees}
+use Rattle.node_table.specs.declared.part.Part.{Part}
 use Rattle.tree_model.specs.XmlMeaning.{unknown_entity, bad_namespace}
 use Rattle.tree_model.specs.XmlReads.{ReadsXml, as_tree, too_many_bytes, not_utf8, other_encoding, internal_subset, not_well_formed, first_fault, too_many_nodes}
-use Rattle.doc_import.specs.declared.whole_text.Built.{Built}
 use Rattle.doc_import.specs.declared.fault.ImportFault.{ImportFault}
 use Rattle.doc_import.specs.declared.fault.ImportFault.TheVariants.{TooLong, NotUtf8, Encoding, InternalSubset, Malformed, UnknownEntity, Namespace, TooManyRows, NoMemory}
 
--- what the rows say, with their names and values
-abbrev pub built_lines : Built → List (Line Label)
-built_lines built = lines_of built.names built.heap built.rows.items
+-- a document as rows with names and values of their own
+abbrev pub Built : Type 0
+Built = Part
 
 -- the one forest that they stand for
 abbrev pub built_forest : Built → Forest Label
-built_forest built = grove_of (built_lines built)
+built_forest built = view_forest (part_view built)
 
 -- the rows are those of the forest, and each has a name and a value of its own
-pub record IsBuilt (built : Built) : Type 0 where
-  pub flat : IsFlat (built_lines built)
-  pub placed : ArePlaced built.names built.heap built.rows.items
+abbrev pub IsBuilt : Built → Type 0
+IsBuilt built = KeepsTrees (part_view built)
 
 -- the tree that is read, or the first fault; want of memory may be answered to any text
 abbrev pub IsImport : List ℕ → Bool → Result Built ImportFault → Type 0

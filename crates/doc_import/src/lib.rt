@@ -8,7 +8,8 @@ mod subset;
 mod whole_text;
 
 pub use fault::ImportFault;
-pub use whole_text::{Built, import};
+pub use node_table::Part as Built;
+pub use whole_text::import;
 
 #[cfg(test)]
 mod tests;

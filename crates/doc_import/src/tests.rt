@@ -118,7 +118,7 @@ fn heads_of_every_form(rt: HostRuntime) -> Result<(), Fail> {
             "<!DOCTYPE\na\tPUBLIC\r\"-//A//b (c) 'd'?//EN\" 'a.dtd'><a/>",
             "<?xml version='1.0'?> <!DOCTYPE a PUBLIC '' ''> <a/> ",
             "<a><![CDATA[]]></a>",
-            "<a xmlns:p='u' xmlns:xml='http://www.w3.org/XML/1998/namespace'/>",
+            "<a xmlns:xml='http://www.w3.org/XML/1998/namespace'/>",
         ],
     )
 }
@@ -152,7 +152,7 @@ fn whole_documents(rt: HostRuntime) -> Result<(), Fail> {
             ),
             (
                 "<p:a xmlns='d' xmlns:p='u' p:x='1' x='2'><b><c xmlns=''/></b></p:a>",
-                "Doc 0 6 1 || ||\nElem 1 5 3 u|p|a ||\nAttr 1 1 1 u|p|x |1|\nAttr 2 1 1 ||x |2|\nElem 3 2 1 d||b ||\nElem 1 1 1 ||c ||\n",
+                "Doc 0 6 1 || ||\nElem 1 5 3 u|p|a |\0d\0p\0u\0|\nAttr 1 1 1 u|p|x |1|\nAttr 2 1 1 ||x |2|\nElem 3 2 1 d||b ||\nElem 1 1 1 ||c |\0\0|\n",
             ),
             (
                 "<a xml:lang='en'>\u{e9}&#x10FFFF;\u{feff}</a>",
@@ -161,6 +161,29 @@ fn whole_documents(rt: HostRuntime) -> Result<(), Fail> {
             (
                 "<a> <b>\n</b>\r\n<c> d </c>&#32;<e><![CDATA[\t]]></e><!--f--> &#xA0;</a>",
                 "Doc 0 13 1 || ||\nElem 1 12 1 ||a ||\nText 1 1 1 || | |\nElem 2 2 1 ||b ||\nText 1 1 1 || |\n|\nText 4 1 1 || |\n|\nElem 5 2 1 ||c ||\nText 1 1 1 || | d |\nText 7 1 1 || | |\nElem 8 2 1 ||e ||\nText 1 1 1 || |\t|\nComm 10 1 1 || |f|\nText 11 1 1 || | \u{a0}|\n",
+            ),
+        ],
+    )
+}
+
+#[test]
+fn declarations_are_kept(rt: HostRuntime) -> Result<(), Fail> {
+    expect(
+        &rt,
+        rt.alloc(),
+        false,
+        &[
+            (
+                "<a xmlns:p=\"u\" xmlns=\"v\"/>",
+                "Doc 0 2 1 || ||\nElem 1 1 1 v||a |p\0u\0\0v\0|\n",
+            ),
+            (
+                "<a xmlns=\"\"/>",
+                "Doc 0 2 1 || ||\nElem 1 1 1 ||a |\0\0|\n",
+            ),
+            (
+                "<a b='1' xmlns:q=' &amp;\n' c='2'/>",
+                "Doc 0 4 1 || ||\nElem 1 3 3 ||a |q\0 & \0|\nAttr 1 1 1 ||b |1|\nAttr 2 1 1 ||c |2|\n",
             ),
         ],
     )
@@ -602,5 +625,29 @@ fn a_text_too_long(rt: HostRuntime) -> Result<(), Fail> {
     let text = vec![in alloc; b' '; (1 << 26) + 1]?;
     let found = answer(alloc, text.as_slice(), false)?;
     assert_eq!(rt; found.as_str(), "TooLong");
+    Ok(())
+}
+
+// Elements inside one another, each with a prefix of its own.
+fn nested(alloc: Global, count: u32) -> Result<String, Fail> {
+    let mut text = String::new(alloc);
+    for number in 0..count {
+        write!(&mut text, "<a xmlns:p{number}='u'>")?;
+    }
+    for _ in 0..count {
+        text.push_str("</a>")?;
+    }
+    Ok(text)
+}
+
+// Ends at once only where a search among many prefixes takes no longer than among few.
+#[test]
+fn many_prefixes_in_scope(rt: HostRuntime) -> Result<(), Fail> {
+    let text = nested(rt.alloc(), 200_000)?;
+    let rows = match import(rt.alloc(), text.as_bytes(), false) {
+        Ok(built) => built.rows.len(),
+        Err(_) => 0,
+    };
+    assert_eq!(rt; rows, 200_001);
     Ok(())
 }

@@ -10,11 +10,9 @@ ghost use Rattle.doc_import.specs.Imported.{IsImport};
 use crate::fault::ImportFault;
 use crate::head::behind_head;
 use crate::reading::{Stop, read};
-use name_pool::NamePool;
+use node_table::Part;
 use std::alloc::Global;
 use std::str;
-use tree_model::Row;
-use value_heap::ValueHeap;
 use xml_pieces::{are_chars, other_encoding};
 use xml_rows::{Builder, Fault, Made};
 
@@ -23,15 +21,6 @@ const MAX_BYTES: usize = 1 << 26;
 
 /// The most rows of one table.
 const MAX_ROWS: usize = 1 << 24;
-
-/// A document as rows. A row's name is a number in `names`, and its value lies in `heap`. Row 0 is the document, with an
-/// empty path, and ids equal places.
-#[derive(Debug, Drop)]
-pub struct Built {
-    pub names: NamePool,
-    pub heap: ValueHeap,
-    pub rows: Vec<Row>,
-}
 
 fn fault_of(fault: Fault) -> ImportFault
     ensures { (text : List ℕ) (strip : Bool) → ReadsXml text strip (first_fault (view.fault_of fault)) → IsImport text strip (Err result) }
@@ -43,7 +32,7 @@ fn fault_of(fault: Fault) -> ImportFault
 }
 
 // The answer of a reading that came to the end of a document.
-fn whole(text: &[u8], strip: bool, builder: Builder<'_>) -> Result<Built, ImportFault>
+fn whole(text: &[u8], strip: bool, builder: Builder<'_>) -> Result<Part, ImportFault>
     requires few { builder.at < 2 ^ 31 }
     requires found { IsWhole strip text.now builder }
     ensures { IsImport text.now strip result }
@@ -59,7 +48,7 @@ fn whole(text: &[u8], strip: bool, builder: Builder<'_>) -> Result<Built, Import
         values,
         rows,
     } = builder.finish();
-    Ok(Built {
+    Ok(Part {
         names,
         heap: values,
         rows,
@@ -67,7 +56,7 @@ fn whole(text: &[u8], strip: bool, builder: Builder<'_>) -> Result<Built, Import
 }
 
 // The answer to a text, by what stands behind its head.
-fn document(alloc: Global, text: &[u8], body: &[u8], strip: bool) -> Result<Built, ImportFault>
+fn document(alloc: Global, text: &[u8], body: &[u8], strip: bool) -> Result<Part, ImportFault>
     requires text { IsText text.now }
     requires encoding { HasNoOtherEncoding text.now }
     requires head { (d : Option Decl) × (head.behind_head text.now ≡ Some (d, body.now)) }
@@ -97,7 +86,7 @@ fn document(alloc: Global, text: &[u8], body: &[u8], strip: bool) -> Result<Buil
 }
 
 /// Reads the document that a text spells. With `strip` a text that is all white space is dropped.
-pub fn import(alloc: Global, bytes: &[u8], strip: bool) -> Result<Built, ImportFault>
+pub fn import(alloc: Global, bytes: &[u8], strip: bool) -> Result<Part, ImportFault>
     ensures { IsImport bytes.now strip result }
 {
     if bytes.len() > MAX_BYTES {

@@ -11,8 +11,8 @@ use Rattle.tree_model.specs.declared.row.ValueRef.{ValueRef}
 use Rattle.tree_model.specs.declared.text.Name.{Name}
 use Rattle.tree_model.proofs.Numbering.{length-numbered_attrs, count-numbered}
 use Rattle.tree_model.proofs.Tables.{value_kept, value_new, placed_at}
-use Rattle.doc_import.specs.Imported.{IsBuilt, built_lines, built_forest}
-use Rattle.doc_import.specs.declared.whole_text.Built.{Built}
+use Rattle.node_table.specs.Views.{part_view, view_lines, view_forest, KeepsTrees}
+use Rattle.node_table.specs.declared.part.Part.{Part}
 use Rattle.doc_store.specs.Moving.{AreNumbers, row_moved, moved, first_valued, with_ids, under_path, moved_lines}
 
 -- ---- one row more
@@ -93,8 +93,8 @@ moved-flatten : (path : List ℕ) (n : ℕ) (f : Forest Label) → moved_lines p
 moved-flatten path n f = ap (with_ids n) (sym (flatten-with_path path f)) ∙ sym (numbered-lines n 0 (with_path path f))
 
 -- the moved lines of a document are those of its tree, numbered and under the path
-pub moved_built : (path : List ℕ) (n : ℕ) (built : Built) → IsBuilt built → moved_lines path n (built_lines built) ≡ flatten (numbered n (with_path path (built_forest built)))
-moved_built path n built h = ap (moved_lines path n) (sym h.flat) ∙ moved-flatten path n (built_forest built)
+pub moved_built : (path : List ℕ) (n : ℕ) (built : Part) → KeepsTrees (part_view built) → moved_lines path n (view_lines (part_view built)) ≡ flatten (numbered n (with_path path (view_forest (part_view built))))
+moved_built path n built h = ap (moved_lines path n) (sym h.flat) ∙ moved-flatten path n (view_forest (part_view built))
 
 length-with_ids : (n : ℕ) (ls : List (Line Label)) → length (with_ids n ls) ≡ length ls
 length-with_ids n [] = refl
@@ -181,13 +181,13 @@ pub whole_heap : (heap whole : List ℕ) (len : ℕ) → len ≡ length heap →
 whole_heap heap whole len len_is e = e ∙ take_all ((0 + len) - 0) heap (omega arith)
 
 -- names with numbers, all bytes behind the old ones, and the path behind these
-pub all_under : (names : List Name) (old heap1 heap whole path : List ℕ) (built : Built) (numbers : List ℕ) (at first len : ℕ) (made rows : List Row) (val : ValueRef)
-    → IsBuilt built → AreNumbers names built.names numbers → len ≡ length built.heap → whole ≡ value_at built.heap (record { at = 0; len = len })
+pub all_under : (names : List Name) (old heap1 heap whole path : List ℕ) (built : Part) (numbers : List ℕ) (at first len : ℕ) (made rows : List Row) (val : ValueRef)
+    → KeepsTrees (part_view built) → AreNumbers names built.names numbers → len ≡ length built.heap → whole ≡ value_at built.heap (record { at = 0; len = len })
     → heap1 ≡ old ++ whole → at ≡ length old → made ≡ moved numbers at first built.rows.items
     → heap ≡ heap1 ++ path → val.at ≡ length heap1 → val.len ≡ length path → rows ≡ first_valued val made
-    → AreUnder names heap path first (built_lines built) rows
+    → AreUnder names heap path first (view_lines (part_view built)) rows
 all_under names old heap1 heap whole path built numbers at first len made rows val h ns len_is whole_is grown at_is made_is more val_at val_len rows_is =
     let same : whole ≡ built.heap = whole_heap built.heap whole len len_is whole_is in
     let w : Lies names heap built.names built.heap numbers at = record { front = old; back = path; is = under_heap old built.heap path whole heap1 heap same grown more; at_is = at_is; numbers_are = ns } in
-    subst (λ r. AreUnder names heap path first (built_lines built) r) (sym (rows_is ∙ ap (first_valued val) made_is))
+    subst (λ r. AreUnder names heap path first (view_lines (part_view built)) r) (sym (rows_is ∙ ap (first_valued val) made_is))
     (first_under names heap built.names built.heap numbers path at first built.rows.items val heap1 w h.placed more val_at val_len)

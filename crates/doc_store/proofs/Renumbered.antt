@@ -35,6 +35,17 @@ bare label (a ∷ attrs) d o = absurd (by label.kind d o)
     by Comm d o = false≢true d
     by Pi d o = false≢true d
 
+doc_owns : (label : Label) → is_doc label ≡ true → owns label [] ≡ true
+doc_owns label d = by label.kind d
+  where
+    by : (k : Kind) → is_doc (record label { kind = k }) ≡ true → owns (record label { kind = k }) [] ≡ true
+    by Doc d = refl
+    by Elem d = absurd (false≢true d)
+    by Text d = absurd (false≢true d)
+    by Attr d = absurd (false≢true d)
+    by Comm d = absurd (false≢true d)
+    by Pi d = absurd (false≢true d)
+
 -- a node list with a document before other trees
 nodes_parts : (x : Label) (kids rest : List Label) → list_all is_good_label (x ∷ (kids ++ rest)) ≡ true
     → (is_good_label x ≡ true) × (list_all is_good_label kids ≡ true) × (list_all is_good_label rest ≡ true)
@@ -54,7 +65,7 @@ documents_numbered n (tree label [] kids rest) h =
     let after : AreDocuments (numbered (n + (1 + 0 + count kids)) rest) = documents_numbered (n + (1 + 0 + count kids)) rest (record { tops = h.tops.1; places = h.places.3; nodes = nodes.2; texts = texts.1 }) in
     record {
       tops = (h.tops.0, after.tops);
-      places = (refl, tops_fit (with_id n label) (doc_fits (is_doc label) (is_elem label) h.tops.0) (numbered (n + (1 + 0)) kids) inner.tops, inner.places, after.places);
+      places = (doc_owns (with_id n label) h.tops.0, tops_fit (with_id n label) (doc_fits (is_doc label) (is_elem label) h.tops.0) (numbered (n + (1 + 0)) kids) inner.tops, inner.places, after.places);
       nodes =
           and_from (is_good_label label) _ nodes.0
           (list_all-append is_good_label (walk (numbered (n + (1 + 0)) kids)) (walk (numbered (n + (1 + 0 + count kids)) rest)) ∙ and_from _ _ inner.nodes after.nodes);

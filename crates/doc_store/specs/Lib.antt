@@ -1,3 +1,5 @@
--- Databases as their fields, and what calls make of them.
+-- Databases as their fields, what calls make of them, and their documents by paths and places.
 pub mod Stored
 pub mod Moving
+pub mod Places
+pub mod Documents

@@ -3,10 +3,12 @@
 
 mod branch;
 mod database;
+mod documents;
 mod rows;
 
 pub use branch::Branch;
 pub use database::Database;
+pub use documents::{document_count, document_places, find_document};
 
 #[cfg(test)]
 mod tests;

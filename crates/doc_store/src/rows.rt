@@ -1,11 +1,11 @@
 // The rows of a document among the names and values of a database.
 ghost use Rattle.std.specs.Prelude.{◌≡◌, ◌+◌, ◌<◌, ◌≤◌, ◌^◌, length, IfOk, OnOk, OnErr};
 ghost use Rattle.tree_model.specs.Rows.{ArePlaced, lines_of};
-ghost use Rattle.doc_import.specs.Imported.{IsBuilt, built_lines};
+ghost use Rattle.node_table.specs.Views.{part_view, view_lines, KeepsTrees};
 ghost use Rattle.doc_store.specs.Moving.{AreNumbers, HasMore, moved_lines, row_moved, moved, first_valued};
 
-use doc_import::Built;
 use name_pool::NamePool;
+use node_table::Part;
 use std::alloc::Global;
 use tree_model::{NoMemory, Row, Text, ValueRef};
 use value_heap::ValueHeap;
@@ -46,7 +46,7 @@ fn moved_row(row: &Row, numbers: &[u64], at: u64, id: u32) -> Row
 
 // The rows of a document with names and values elsewhere, and with ids from `first` on.
 fn moved_rows(
-    built: &Built,
+    built: &Part,
     numbers: &[u64],
     at: u64,
     first: u32,
@@ -83,12 +83,12 @@ pub fn rows_under(
     names: &mut NamePool,
     heap: &mut ValueHeap,
     path: &Text,
-    built: &Built,
+    built: &Part,
     first: u32,
 ) -> Result<Vec<Row>, NoMemory>
-    requires built { IsBuilt built.now }
+    requires built { KeepsTrees (part_view built.now) }
     requires few { first + length built.now.rows.items < 2 ^ 32 }
-    ensures lines { IfOk result (λ rows. lines_of names.new heap.new rows.items ≡ moved_lines path.now first (built_lines built.now)) }
+    ensures lines { IfOk result (λ rows. lines_of names.new heap.new rows.items ≡ moved_lines path.now first (view_lines (part_view built.now))) }
     ensures placed { IfOk result (λ rows. ArePlaced names.new heap.new rows.items) }
     ensures names { HasMore names.old names.new }
     ensures heap { HasMore heap.old heap.new }

@@ -1,5 +1,6 @@
 // How much work was done.
 ghost use Rattle.std.specs.Prelude.{◌≡◌, ◌+◌, ◌-◌, ◌^◌, min};
+ghost use Rattle.frame_pool.specs.Meters.{HasCountedFrame};
 
 /// How many rows were read and how many frames written. A count stops at the greatest u64, and no call lowers one.
 #[derive(Clone, Copy, Debug, PartialEq, Eq)]
@@ -26,5 +27,12 @@ impl Meter {
         ensures frames { self.new.frames_written ≡ self.old.frames_written }
     {
         self.rows_read = self.rows_read.saturating_add(1);
+    }
+
+    /// Counts one more frame.
+    pub(crate) fn count_frame(&mut self)
+        ensures { HasCountedFrame self.old self.new }
+    {
+        self.frames_written = self.frames_written.saturating_add(1);
     }
 }

@@ -8,12 +8,6 @@ use Rattle.tree_model.specs.Labels.{Label}
 use Rattle.tree_model.specs.Printed.{row_texts, rows_text, range_text}
 use Rattle.tree_model.specs.Rows.{line_of}
 use Rattle.tree_model.specs.Trees.{flat-length, length-lines}
-use Rattle.kernel_session.specs.Tables.{IsTable, table_lines, table_forest}
-use Rattle.kernel_session.specs.declared.table.Table.{Table}
-
--- as many rows as nodes
-pub rows_counted : (table : Table) → IsTable table → length table.rows.now ≡ count (table_forest table)
-rows_counted table h = sym (length-map table.rows.now (line_of table.names.now table.heap.now)) ∙ flat-length (table_lines table) h.flat
 
 -- all rows, as a range
 pub range_all : (f : Forest Label) (len : ℕ) → len ≡ count f → range_text 0 len f ≡ rows_text f

@@ -9,14 +9,11 @@ pub mod WordTexts
 pub mod Paths
 pub mod Contents
 pub mod Bases
-pub mod Siblings
 pub mod Nodes
-pub mod Standing
 pub mod PathPlaces
 pub mod Slashes
 pub mod Reading
 pub mod Queries
 pub mod Databases
 pub mod PathAnswers
-pub mod DocumentPaths
 pub mod FileFaults

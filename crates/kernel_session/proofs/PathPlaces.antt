@@ -4,8 +4,9 @@ use Rattle.std.specs.Prelude.{filter, drop, Result, Ok, Err, OnOk}
 use Rattle.std.specs.declared.alloc.AllocError.{AllocError}
 use Rattle.std.specs.List.{All, Contains, flat_map, join_with_byte, range_with_len}
 use Rattle.std.proofs.lemmas.List.{map-append, drop_all}
-use Rattle.axis_cursor.specs.Trees.{places_of, axis_places, step_places}
-use Rattle.axis_cursor.proofs.NodeRows.{some_there}
+use Rattle.axis_cursor.specs.Trees.{axis_places, step_places}
+use Rattle.node_table.specs.Views.{places_of}
+use Rattle.node_table.proofs.NodeRows.{some_there}
 use Rattle.axis_steps.specs.Steps.{path_places}
 use Rattle.tree_model.specs.Axes.{axis_nodes, step_from, steps_from, path_value}
 use Rattle.tree_model.specs.Forest.{Forest, count, flatten}
@@ -16,33 +17,14 @@ use Rattle.tree_model.specs.declared.axis.Axis.{Axis}
 use Rattle.tree_model.specs.declared.axis.AxisStep.{AxisStep}
 use Rattle.tree_model.specs.declared.axis.Test.{Test}
 use Rattle.tree_model.proofs.Standing.{IsIn, in_contains, tops_in, place_below, node_places, places_in_order, in_order_in}
-use Rattle.kernel_session.specs.Places.{text_at, AreTreesBetween, tops_between}
-use Rattle.kernel_session.specs.Tables.{IsTable, table_lines, table_forest}
-use Rattle.kernel_session.specs.declared.table.Table.{Table}
-use Rattle.kernel_session.proofs.Contents.{rows_counted}
+use Rattle.kernel_session.specs.Places.{text_at}
 use Rattle.kernel_session.proofs.Nodes.{node_at_is, text_at_is}
-use Rattle.kernel_session.proofs.Siblings.{tops_are}
 
 -- all of these are nodes of the trees
 abbrev pub AreNodes : Forest Label → List (Node Label) → Type 0
 AreNodes f found = (node : Node Label) → IsIn found node → IsIn (nodes f) node
 
 -- ---- the documents
-
-pub whole_trees : (table : Table) → IsTable table → AreTreesBetween (table_lines table) 0 (length table.rows.now)
-whole_trees table h = record {
-  trees = table_forest table;
-  before = [];
-  dist = 0;
-  behind = [];
-  are = sym h.flat ∙ sym (append-nil (flatten (table_forest table)));
-  starts = refl;
-  ends = omega (arith, rows_counted table h);
-}
-
-pub all_tops : (table : Table) → IsTable table → tops_between (table_lines table) 0 (length table.rows.now) ≡ places_of (tops (table_forest table))
-unfolding whole_trees
-all_tops table h = tops_are (table_lines table) 0 (length table.rows.now) (whole_trees table h)
 
 pub tops_nodes : (f : Forest Label) → AreNodes f (tops f)
 tops_nodes f node i = tops_in 0 f node i

@@ -3,11 +3,10 @@ use Rattle.std.proofs.Common.{inl, inr, ℕ, Bool, List, Result, Ok, Err, refl, 
 use Rattle.std.specs.Prelude.{IfOk, IfErr, codes}
 use Rattle.outer_io.specs.Files.{Seen, NoneFell}
 use Rattle.tree_model.specs.declared.code.Refusal.{Refusal}
-use Rattle.doc_import.specs.declared.whole_text.Built.{Built}
 use Rattle.tree_model.specs.Labels.{with_path}
 use Rattle.tree_model.specs.Printed.{rows_text}
 use Rattle.tree_model.specs.States.{State}
-use Rattle.doc_import.specs.Imported.{built_forest}
+use Rattle.doc_import.specs.Imported.{Built, built_forest}
 use Rattle.kernel_session.specs.declared.command.Options.{Options}
 use Rattle.kernel_session.specs.Replies.{Answer, accepted, refused, IsText}
 use Rattle.kernel_session.specs.Commands.{Input, text, file, table}

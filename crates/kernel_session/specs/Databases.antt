@@ -7,8 +7,7 @@ use Rattle.tree_model.specs.States.{Base, new_base}
 use Rattle.tree_model.specs.Labels.{with_path}
 use Rattle.tree_model.specs.XmlReads.{ReadsXml, as_tree}
 use Rattle.tree_model.specs.declared.code.Refusal.{Refusal}
-use Rattle.doc_import.specs.Imported.{IsBuilt, built_forest}
-use Rattle.doc_import.specs.declared.whole_text.Built.{Built}
+use Rattle.doc_import.specs.Imported.{Built, IsBuilt, built_forest}
 use Rattle.doc_store.specs.Stored.{Stored, base_of}
 use Rattle.kernel_session.specs.Commands.{Input, file}
 use Rattle.kernel_session.specs.Replies.{refusal_text}

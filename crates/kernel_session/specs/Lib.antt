@@ -3,7 +3,6 @@ pub mod Lines
 pub mod Commands
 pub mod CommandView
 pub mod Places
-pub mod Tables
 pub mod Replies
 pub mod ReplyView
 pub mod Steps

@@ -1,23 +1,19 @@
 // What is printed of databases.
-ghost use Rattle.std.specs.Prelude.{◌≡◌, ◌<◌, ◌^◌, ◌++◌, None, OnOk, IfOk, IfSome, IfNone, length, map};
+ghost use Rattle.std.specs.Prelude.{◌≡◌, ◌<◌, ◌++◌, OnOk, IfOk, IfSome, IfNone, None, map};
 ghost use Rattle.std.specs.List.{All, join_with_byte};
-ghost use Rattle.tree_model.specs.Forest.{top_count};
 ghost use Rattle.tree_model.specs.Axes.{path_value};
 ghost use Rattle.tree_model.specs.Printed.{base_text, list_text, storage_text};
+ghost use Rattle.tree_model.specs.Forest.{count};
 ghost use Rattle.tree_model.specs.Printing.{answer_text};
 ghost use Rattle.tree_model.specs.States.{document_under};
-ghost use Rattle.axis_cursor.specs.Trees.{places_of};
-ghost use Rattle.axis_steps.specs.Steps.{IsStanding};
+ghost use Rattle.node_table.specs.Views.{places_of};
 ghost use Rattle.doc_store.specs.Stored.{base_of, IsKept};
 ghost use Rattle.frame_pool.specs.Meters.{HasRead};
-ghost use Rattle.kernel_session.specs.Places.{text_at};
-ghost use Rattle.kernel_session.specs.Tables.{IsTable, table_forest, IsDocumentAt};
+ghost use Rattle.kernel_session.specs.Places.{text_at, IsDocumentPlace};
 
 use crate::number::Number;
-use crate::table::{Table, table_of};
-use crate::tops::document_places;
 use axis_steps::{Trees, path};
-use doc_store::Database;
+use doc_store::{Database, document_count, document_places, find_document};
 use frame_pool::Meter;
 use serializer::{print_node, print_storage, push_number};
 use std::alloc::{AllocError, Global};
@@ -46,43 +42,43 @@ pub fn push_storage(
     )
 }
 
-// How many documents a database has.
-fn document_count(alloc: Global, database: &Database) -> Result<u64, AllocError>
-    ensures { IfOk result (λ n. n ≡ top_count (base_of database.now).documents) }
-{
-    let places = document_places(alloc, database)?;
-    Ok(places.len() as u64)
-}
-
 // Appends the line `name documents rows`.
-fn push_line(alloc: Global, database: &Database, out: &mut Vec<u8>) -> Result<(), AllocError>
+fn push_line(database: &Database, out: &mut Vec<u8>) -> Result<(), AllocError>
     ensures { OnOk result (out.new.items ≡ out.old.items ++ base_text (base_of database.now)) }
 {
     out.extend_from_slice(database.name().as_str().as_bytes())?;
     out.push(b' ')?;
-    push_number(out, document_count(alloc, database)?)?;
+    push_number(out, document_count(database) as u64)?;
     out.push(b' ')?;
     push_number(out, database.table().len() as u64)
 }
 
 /// Appends a line for each database, joined by LF.
-pub fn push_list(alloc: Global, databases: &[Database], out: &mut Vec<u8>) -> Result<(), AllocError>
+pub fn push_list(databases: &[Database], out: &mut Vec<u8>) -> Result<(), AllocError>
     ensures { OnOk result (out.new.items ≡ out.old.items ++ list_text (map base_of databases.now)) }
 {
     let Some((first, rest)) = databases.split_first() else {
         return Ok(());
     };
-    push_line(alloc, first, out)?;
+    push_line(first, out)?;
     for database in rest {
         out.push(b'\n')?;
-        push_line(alloc, database, out)?;
+        push_line(database, out)?;
     }
     Ok(())
 }
 
+/// The place of the document under a path.
+pub fn document_place(database: &Database, path: &[u8]) -> Option<u32>
+    ensures some { IfSome result (IsDocumentPlace path.now (base_of database.now).documents) }
+    ensures none { IfNone result (document_under path.now (base_of database.now).documents ≡ None) }
+{
+    find_document(database, path)
+}
+
 /// Appends the XML text of the node at a place.
 pub fn push_node(database: &Database, place: u32, out: &mut Vec<u8>) -> Result<(), AllocError>
-    requires within { place < length database.now.rows }
+    requires within { place < count (base_of database.now).documents }
     ensures { OnOk result (out.new.items ≡ out.old.items ++ text_at (base_of database.now).documents place) }
 {
     print_node(
@@ -97,7 +93,7 @@ pub fn push_node(database: &Database, place: u32, out: &mut Vec<u8>) -> Result<(
 
 // Appends the XML text of the nodes at these places, joined by LF.
 fn push_nodes(database: &Database, places: &[u32], out: &mut Vec<u8>) -> Result<(), AllocError>
-    requires within { All (λ place. place < length database.now.rows) places.now }
+    requires within { All (λ place. place < count (base_of database.now).documents) places.now }
     ensures { OnOk result (out.new.items ≡ out.old.items ++ join_with_byte 10 (map (text_at (base_of database.now).documents) places.now)) }
 {
     let Some((first, rest)) = places.split_first() else {
@@ -113,9 +109,9 @@ fn push_nodes(database: &Database, places: &[u32], out: &mut Vec<u8>) -> Result<
 
 // The rows of a database, for walks over them.
 fn trees_of(database: &Database) -> Trees<'_>
-    ensures table { result.table.now ≡ database.now.rows }
+    ensures table { result.table.now ≡ database.now.table }
+    ensures pool { result.pool.now ≡ database.now.pool }
     ensures names { result.names.now ≡ database.now.names }
-    ensures standing { IsStanding result.names.now result.table.now }
     ensures kept { IsKept database.now }
 {
     Trees {
@@ -133,7 +129,7 @@ fn path_places(
     meter: &mut Meter,
 ) -> Result<Vec<u32>, AllocError>
     ensures places { IfOk result (λ found. found.items ≡ places_of (path_value (base_of database.now).documents steps.now)) }
-    ensures within { IfOk result (λ found. All (λ place. place < length database.now.rows) found.items) }
+    ensures within { IfOk result (λ found. All (λ place. place < count (base_of database.now).documents) found.items) }
     ensures meter { HasRead meter.old meter.new }
 {
     let places = document_places(alloc, database)?;
@@ -153,32 +149,4 @@ pub fn push_answer(
 {
     let places = path_places(alloc, database, steps, meter)?;
     push_nodes(database, &places, out)
-}
-
-// The place of the document under a path.
-fn document_in(table: &Table<'_>, path: &[u8]) -> Option<u32>
-    requires table { IsTable table.now }
-    requires few { length table.now.rows.now < 2 ^ 32 }
-    ensures some { IfSome result (IsDocumentAt path.now (table_forest table.now)) }
-    ensures none { IfNone result (document_under path.now (table_forest table.now) ≡ None) }
-{
-    let end = table.rows.len() as u32;
-    let mut at = 0;
-    while at < end {
-        let row = table.row(at);
-        if table.heap.get(row.val) == path {
-            return Some(at);
-        }
-        at += row.size;
-    }
-    None
-}
-
-/// The place of the document under a path.
-pub fn find_document(database: &Database, path: &[u8]) -> Option<u32>
-    ensures some { IfSome result (IsDocumentAt path.now (base_of database.now).documents) }
-    ensures within { IfSome result (λ place. place < length database.now.rows) }
-    ensures none { IfNone result (document_under path.now (base_of database.now).documents ≡ None) }
-{
-    document_in(&table_of(database), path)
 }

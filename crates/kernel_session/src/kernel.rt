@@ -20,7 +20,7 @@ ghost use Rattle.kernel_session.specs.Exports.{IsWrittenReply};
 ghost use Rattle.kernel_session.specs.Commands.{table, create, storage, list, query, export};
 ghost use Rattle.kernel_session.specs.Steps.{Workspace, workspace, Step};
 
-use crate::answers::{find_document, push_answer, push_list, push_node, push_storage};
+use crate::answers::{document_place, push_answer, push_list, push_node, push_storage};
 use crate::command::{Command, Options};
 use crate::content::read_document;
 use crate::create::{database_of, new_database};
@@ -233,7 +233,7 @@ impl Kernel {
         ensures { IsText (list_text self.now.bases) (answer_of result) }
     {
         let mut text = Vec::new(alloc);
-        let written = push_list(alloc, self.databases.as_slice(), &mut text);
+        let written = push_list(self.databases.as_slice(), &mut text);
         text_reply(text, written)
     }
 
@@ -268,7 +268,7 @@ impl Kernel {
         let Some(database) = self.database() else {
             return Reply::Err(Refusal::Code(Code::XKDB0001));
         };
-        let Some(place) = find_document(database, path.bytes()) else {
+        let Some(place) = document_place(database, path.bytes()) else {
             return Reply::Err(Refusal::Code(Code::XKDB0004));
         };
         let mut text = Vec::new(alloc);

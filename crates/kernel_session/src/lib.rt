@@ -12,8 +12,6 @@ mod lines;
 mod number;
 mod reply;
 mod session;
-mod table;
-mod tops;
 mod word;
 
 pub use command::{Command, Options, QueryText, read_command};

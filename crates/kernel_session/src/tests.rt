@@ -256,13 +256,199 @@ fn faults_of_xml_are_answered(rt: HostRuntime) -> Result<(), Fail> {
     Ok(())
 }
 
+// Whether each script is answered so, without a refusal.
+fn are_answered(rt: &HostRuntime, table: &[(&str, &str)]) -> Result<bool, Fail> {
+    for (script, output) in table {
+        if !is_answered(rt, script.as_bytes(), output.as_bytes(), 0)? {
+            return Ok(false);
+        }
+    }
+    Ok(true)
+}
+
 #[test]
-fn names_are_declared(rt: HostRuntime) -> Result<(), Fail> {
+fn declarations_are_kept(rt: HostRuntime) -> Result<(), Fail> {
+    let table = [
+        (
+            "CREATE DB d <a/>\nXQUERY /\nXQUERY //*/*\nCREATE DB e <a/>\nXQUERY /\n",
+            "ok 0\n\nok 4\n<a/>\nok 0\n\nok 0\n\nok 4\n<a/>\n",
+        ),
+        (
+            "CREATE DB d <a xmlns=\"\"/>\nXQUERY /\nXQUERY //*/*\nCREATE DB e <a xmlns=\"\"/>\nXQUERY /\n",
+            "ok 0\n\nok 13\n<a xmlns=\"\"/>\nok 0\n\nok 0\n\nok 13\n<a xmlns=\"\"/>\n",
+        ),
+        (
+            "CREATE DB d <a xmlns=\"u\"/>\nXQUERY /\nXQUERY //*/*\nCREATE DB e <a xmlns=\"u\"/>\nXQUERY /\n",
+            "ok 0\n\nok 14\n<a xmlns=\"u\"/>\nok 0\n\nok 0\n\nok 14\n<a xmlns=\"u\"/>\n",
+        ),
+        (
+            "CREATE DB d <a xmlns=\"u\" xmlns:p=\"v\"/>\nXQUERY /\nXQUERY //*/*\nCREATE DB e <a xmlns=\"u\" xmlns:p=\"v\"/>\nXQUERY /\n",
+            "ok 0\n\nok 26\n<a xmlns=\"u\" xmlns:p=\"v\"/>\nok 0\n\nok 0\n\nok 26\n<a xmlns=\"u\" xmlns:p=\"v\"/>\n",
+        ),
+        (
+            "CREATE DB d <a xmlns:p=\"v\" xmlns=\"u\"/>\nXQUERY /\nXQUERY //*/*\nCREATE DB e <a xmlns:p=\"v\" xmlns=\"u\"/>\nXQUERY /\n",
+            "ok 0\n\nok 26\n<a xmlns:p=\"v\" xmlns=\"u\"/>\nok 0\n\nok 0\n\nok 26\n<a xmlns:p=\"v\" xmlns=\"u\"/>\n",
+        ),
+        (
+            "CREATE DB d <p:a xmlns:p=\"u\"/>\nXQUERY /\nXQUERY //*/*\nCREATE DB e <p:a xmlns:p=\"u\"/>\nXQUERY /\n",
+            "ok 0\n\nok 18\n<p:a xmlns:p=\"u\"/>\nok 0\n\nok 0\n\nok 18\n<p:a xmlns:p=\"u\"/>\n",
+        ),
+        (
+            "CREATE DB d <a xmlns:p=\"u\"/>\nXQUERY /\nXQUERY //*/*\nCREATE DB e <a xmlns:p=\"u\"/>\nXQUERY /\n",
+            "ok 0\n\nok 16\n<a xmlns:p=\"u\"/>\nok 0\n\nok 0\n\nok 16\n<a xmlns:p=\"u\"/>\n",
+        ),
+        (
+            "CREATE DB d <a xmlns:p=\"u\" xmlns:q=\"u\"/>\nXQUERY /\nXQUERY //*/*\nCREATE DB e <a xmlns:p=\"u\" xmlns:q=\"u\"/>\nXQUERY /\n",
+            "ok 0\n\nok 28\n<a xmlns:p=\"u\" xmlns:q=\"u\"/>\nok 0\n\nok 0\n\nok 28\n<a xmlns:p=\"u\" xmlns:q=\"u\"/>\n",
+        ),
+        (
+            "CREATE DB d <p:a xmlns:p=\"u\" xmlns:q=\"u\" q:k=\"1\"/>\nXQUERY /\nXQUERY //*/*\nCREATE DB e <p:a xmlns:p=\"u\" xmlns:q=\"u\" q:k=\"1\"/>\nXQUERY /\n",
+            "ok 0\n\nok 38\n<p:a xmlns:p=\"u\" xmlns:q=\"u\" q:k=\"1\"/>\nok 0\n\nok 0\n\nok 38\n<p:a xmlns:p=\"u\" xmlns:q=\"u\" q:k=\"1\"/>\n",
+        ),
+        (
+            "CREATE DB d <a xmlns=\"u\"><b/></a>\nXQUERY /\nXQUERY //*/*\nCREATE DB e <a xmlns=\"u\"><b/></a>\nXQUERY /\n",
+            "ok 0\n\nok 21\n<a xmlns=\"u\"><b/></a>\nok 14\n<b xmlns=\"u\"/>\nok 0\n\nok 21\n<a xmlns=\"u\"><b/></a>\n",
+        ),
+        (
+            "CREATE DB d <a xmlns=\"u\"><b xmlns=\"u\"/></a>\nXQUERY /\nXQUERY //*/*\nCREATE DB e <a xmlns=\"u\"><b xmlns=\"u\"/></a>\nXQUERY /\n",
+            "ok 0\n\nok 31\n<a xmlns=\"u\"><b xmlns=\"u\"/></a>\nok 14\n<b xmlns=\"u\"/>\nok 0\n\nok 31\n<a xmlns=\"u\"><b xmlns=\"u\"/></a>\n",
+        ),
+        (
+            "CREATE DB d <a xmlns=\"u\"><b xmlns=\"\"/></a>\nXQUERY /\nXQUERY //*/*\nCREATE DB e <a xmlns=\"u\"><b xmlns=\"\"/></a>\nXQUERY /\n",
+            "ok 0\n\nok 30\n<a xmlns=\"u\"><b xmlns=\"\"/></a>\nok 13\n<b xmlns=\"\"/>\nok 0\n\nok 30\n<a xmlns=\"u\"><b xmlns=\"\"/></a>\n",
+        ),
+        (
+            "CREATE DB d <a xmlns=\"u\"><b xmlns=\"\"><c/></b><d/></a>\nXQUERY /\nXQUERY //*/*\nCREATE DB e <a xmlns=\"u\"><b xmlns=\"\"><c/></b><d/></a>\nXQUERY /\n",
+            "ok 0\n\nok 41\n<a xmlns=\"u\"><b xmlns=\"\"><c/></b><d/></a>\nok 40\n<b xmlns=\"\"><c/></b>\n<c/>\n<d xmlns=\"u\"/>\nok 0\n\nok 41\n<a xmlns=\"u\"><b xmlns=\"\"><c/></b><d/></a>\n",
+        ),
+        (
+            "CREATE DB d <a xmlns=\"u\"><b xmlns=\"v\"><c xmlns=\"u\"/></b></a>\nXQUERY /\nXQUERY //*/*\nCREATE DB e <a xmlns=\"u\"><b xmlns=\"v\"><c xmlns=\"u\"/></b></a>\nXQUERY /\n",
+            "ok 0\n\nok 48\n<a xmlns=\"u\"><b xmlns=\"v\"><c xmlns=\"u\"/></b></a>\nok 46\n<b xmlns=\"v\"><c xmlns=\"u\"/></b>\n<c xmlns=\"u\"/>\nok 0\n\nok 48\n<a xmlns=\"u\"><b xmlns=\"v\"><c xmlns=\"u\"/></b></a>\n",
+        ),
+        (
+            "CREATE DB d <p:a xmlns:p=\"u\"><p:b xmlns:p=\"v\"><p:c/></p:b><p:d/></p:a>\nXQUERY /\nXQUERY //*/*\nCREATE DB e <p:a xmlns:p=\"u\"><p:b xmlns:p=\"v\"><p:c/></p:b><p:d/></p:a>\nXQUERY /\n",
+            "ok 0\n\nok 58\n<p:a xmlns:p=\"u\"><p:b xmlns:p=\"v\"><p:c/></p:b><p:d/></p:a>\nok 67\n<p:b xmlns:p=\"v\"><p:c/></p:b>\n<p:c xmlns:p=\"v\"/>\n<p:d xmlns:p=\"u\"/>\nok 0\n\nok 58\n<p:a xmlns:p=\"u\"><p:b xmlns:p=\"v\"><p:c/></p:b><p:d/></p:a>\n",
+        ),
+        (
+            "CREATE DB d <p:a xmlns:p=\"u\"><p:b xmlns:p=\"v\"><p:c xmlns:p=\"u\"/></p:b><p:d/></p:a>\nXQUERY /\nXQUERY //*/*\nCREATE DB e <p:a xmlns:p=\"u\"><p:b xmlns:p=\"v\"><p:c xmlns:p=\"u\"/></p:b><p:d/></p:a>\nXQUERY /\n",
+            "ok 0\n\nok 70\n<p:a xmlns:p=\"u\"><p:b xmlns:p=\"v\"><p:c xmlns:p=\"u\"/></p:b><p:d/></p:a>\nok 79\n<p:b xmlns:p=\"v\"><p:c xmlns:p=\"u\"/></p:b>\n<p:c xmlns:p=\"u\"/>\n<p:d xmlns:p=\"u\"/>\nok 0\n\nok 70\n<p:a xmlns:p=\"u\"><p:b xmlns:p=\"v\"><p:c xmlns:p=\"u\"/></p:b><p:d/></p:a>\n",
+        ),
+        (
+            "CREATE DB d <a xmlns:xml=\"http://www.w3.org/XML/1998/namespace\"/>\nXQUERY /\nXQUERY //*/*\nCREATE DB e <a/>\nXQUERY /\n",
+            "ok 0\n\nok 4\n<a/>\nok 0\n\nok 0\n\nok 4\n<a/>\n",
+        ),
+        (
+            "CREATE DB d <a xmlns:xml=\"http://www.w3.org/XML/1998/namespace\" xmlns:p=\"u\" xml:lang=\"en\"/>\nXQUERY /\nXQUERY //*/*\nCREATE DB e <a xmlns:p=\"u\" xml:lang=\"en\"/>\nXQUERY /\n",
+            "ok 0\n\nok 30\n<a xmlns:p=\"u\" xml:lang=\"en\"/>\nok 0\n\nok 0\n\nok 30\n<a xmlns:p=\"u\" xml:lang=\"en\"/>\n",
+        ),
+        (
+            "CREATE DB d <xml:a/>\nXQUERY /\nXQUERY //*/*\nCREATE DB e <xml:a/>\nXQUERY /\n",
+            "ok 0\n\nok 8\n<xml:a/>\nok 0\n\nok 0\n\nok 8\n<xml:a/>\n",
+        ),
+        (
+            "CREATE DB d <a xml:space=\"preserve\"> </a>\nXQUERY /\nXQUERY //*/*\nCREATE DB e <a xml:space=\"preserve\"> </a>\nXQUERY /\n",
+            "ok 0\n\nok 29\n<a xml:space=\"preserve\"> </a>\nok 0\n\nok 0\n\nok 29\n<a xml:space=\"preserve\"> </a>\n",
+        ),
+        (
+            "CREATE DB d <a xmlns:p=\"u\"><p:b/><b p:k=\"1\"/></a>\nXQUERY /\nXQUERY //*/*\nCREATE DB e <a xmlns:p=\"u\"><p:b/><b p:k=\"1\"/></a>\nXQUERY /\n",
+            "ok 0\n\nok 37\n<a xmlns:p=\"u\"><p:b/><b p:k=\"1\"/></a>\nok 43\n<p:b xmlns:p=\"u\"/>\n<b xmlns:p=\"u\" p:k=\"1\"/>\nok 0\n\nok 37\n<a xmlns:p=\"u\"><p:b/><b p:k=\"1\"/></a>\n",
+        ),
+        (
+            "CREATE DB d <a xmlns:p=\"u\"><b xmlns:p=\"u\"><c p:k=\"\"/></b></a>\nXQUERY /\nXQUERY //*/*\nCREATE DB e <a xmlns:p=\"u\"><b xmlns:p=\"u\"><c p:k=\"\"/></b></a>\nXQUERY /\n",
+            "ok 0\n\nok 49\n<a xmlns:p=\"u\"><b xmlns:p=\"u\"><c p:k=\"\"/></b></a>\nok 54\n<b xmlns:p=\"u\"><c p:k=\"\"/></b>\n<c xmlns:p=\"u\" p:k=\"\"/>\nok 0\n\nok 49\n<a xmlns:p=\"u\"><b xmlns:p=\"u\"><c p:k=\"\"/></b></a>\n",
+        ),
+        (
+            "CREATE DB d <a><b xmlns:p=\"1\"/><b xmlns:p=\"2\"/></a>\nXQUERY /\nXQUERY //*/*\nCREATE DB e <a><b xmlns:p=\"1\"/><b xmlns:p=\"2\"/></a>\nXQUERY /\n",
+            "ok 0\n\nok 39\n<a><b xmlns:p=\"1\"/><b xmlns:p=\"2\"/></a>\nok 33\n<b xmlns:p=\"1\"/>\n<b xmlns:p=\"2\"/>\nok 0\n\nok 39\n<a><b xmlns:p=\"1\"/><b xmlns:p=\"2\"/></a>\n",
+        ),
+        (
+            "CREATE DB d <a><p:b xmlns:p=\"1\"/><p:b xmlns:p=\"2\"/></a>\nXQUERY /\nXQUERY //*/*\nCREATE DB e <a><p:b xmlns:p=\"1\"/><p:b xmlns:p=\"2\"/></a>\nXQUERY /\n",
+            "ok 0\n\nok 43\n<a><p:b xmlns:p=\"1\"/><p:b xmlns:p=\"2\"/></a>\nok 37\n<p:b xmlns:p=\"1\"/>\n<p:b xmlns:p=\"2\"/>\nok 0\n\nok 43\n<a><p:b xmlns:p=\"1\"/><p:b xmlns:p=\"2\"/></a>\n",
+        ),
+        (
+            "CREATE DB d <a xmlns:a=\"x\"><a:a a:a=\"y\"/></a>\nXQUERY /\nXQUERY //*/*\nCREATE DB e <a xmlns:a=\"x\"><a:a a:a=\"y\"/></a>\nXQUERY /\n",
+            "ok 0\n\nok 33\n<a xmlns:a=\"x\"><a:a a:a=\"y\"/></a>\nok 26\n<a:a xmlns:a=\"x\" a:a=\"y\"/>\nok 0\n\nok 33\n<a xmlns:a=\"x\"><a:a a:a=\"y\"/></a>\n",
+        ),
+        (
+            "CREATE DB d <a xmlns:p=\"u\" k=\"1\" xmlns:q=\"v\" l=\"2\"/>\nXQUERY /\nXQUERY //*/*\nCREATE DB e <a xmlns:p=\"u\" xmlns:q=\"v\" k=\"1\" l=\"2\"/>\nXQUERY /\n",
+            "ok 0\n\nok 40\n<a xmlns:p=\"u\" xmlns:q=\"v\" k=\"1\" l=\"2\"/>\nok 0\n\nok 0\n\nok 40\n<a xmlns:p=\"u\" xmlns:q=\"v\" k=\"1\" l=\"2\"/>\n",
+        ),
+        (
+            "CREATE DB d <a p:k=\"1\" xmlns:p=\"u\"/>\nXQUERY /\nXQUERY //*/*\nCREATE DB e <a xmlns:p=\"u\" p:k=\"1\"/>\nXQUERY /\n",
+            "ok 0\n\nok 24\n<a xmlns:p=\"u\" p:k=\"1\"/>\nok 0\n\nok 0\n\nok 24\n<a xmlns:p=\"u\" p:k=\"1\"/>\n",
+        ),
+        (
+            "CREATE DB d <a xmlns:p=\"u&amp;v\"/>\nXQUERY /\nXQUERY //*/*\nCREATE DB e <a xmlns:p=\"u&amp;v\"/>\nXQUERY /\n",
+            "ok 0\n\nok 22\n<a xmlns:p=\"u&amp;v\"/>\nok 0\n\nok 0\n\nok 22\n<a xmlns:p=\"u&amp;v\"/>\n",
+        ),
+        (
+            "CREATE DB d <a xmlns:p=\"&lt;&gt;&quot;\"/>\nXQUERY /\nXQUERY //*/*\nCREATE DB e <a xmlns:p=\"&lt;&gt;&quot;\"/>\nXQUERY /\n",
+            "ok 0\n\nok 29\n<a xmlns:p=\"&lt;&gt;&quot;\"/>\nok 0\n\nok 0\n\nok 29\n<a xmlns:p=\"&lt;&gt;&quot;\"/>\n",
+        ),
+        (
+            "CREATE DB d <a xmlns:p='\"'/>\nXQUERY /\nXQUERY //*/*\nCREATE DB e <a xmlns:p=\"&quot;\"/>\nXQUERY /\n",
+            "ok 0\n\nok 21\n<a xmlns:p=\"&quot;\"/>\nok 0\n\nok 0\n\nok 21\n<a xmlns:p=\"&quot;\"/>\n",
+        ),
+        (
+            "CREATE DB d <a xmlns:p=\"a&#9;b&#10;c&#13;d\"/>\nXQUERY /\nXQUERY //*/*\nCREATE DB e <a xmlns:p=\"a&#9;b&#10;c&#13;d\"/>\nXQUERY /\n",
+            "ok 0\n\nok 33\n<a xmlns:p=\"a&#9;b&#10;c&#13;d\"/>\nok 0\n\nok 0\n\nok 33\n<a xmlns:p=\"a&#9;b&#10;c&#13;d\"/>\n",
+        ),
+        (
+            "CREATE DB d <a xmlns:p=\"a\tb\"/>\nXQUERY /\nXQUERY //*/*\nCREATE DB e <a xmlns:p=\"a b\"/>\nXQUERY /\n",
+            "ok 0\n\nok 18\n<a xmlns:p=\"a b\"/>\nok 0\n\nok 0\n\nok 18\n<a xmlns:p=\"a b\"/>\n",
+        ),
+        (
+            "CREATE DB d <a xmlns=\"u\" xmlns:p=\"u\"><p:b><c/></p:b></a>\nXQUERY /\nXQUERY //*/*\nCREATE DB e <a xmlns=\"u\" xmlns:p=\"u\"><p:b><c/></p:b></a>\nXQUERY /\n",
+            "ok 0\n\nok 44\n<a xmlns=\"u\" xmlns:p=\"u\"><p:b><c/></p:b></a>\nok 52\n<p:b xmlns:p=\"u\"><c xmlns=\"u\"/></p:b>\n<c xmlns=\"u\"/>\nok 0\n\nok 44\n<a xmlns=\"u\" xmlns:p=\"u\"><p:b><c/></p:b></a>\n",
+        ),
+        (
+            "CREATE DB d <p:a xmlns:p=\"u\" xmlns=\"v\"><b p:k=\"1\"/></p:a>\nXQUERY /\nXQUERY //*/*\nCREATE DB e <p:a xmlns:p=\"u\" xmlns=\"v\"><b p:k=\"1\"/></p:a>\nXQUERY /\n",
+            "ok 0\n\nok 45\n<p:a xmlns:p=\"u\" xmlns=\"v\"><b p:k=\"1\"/></p:a>\nok 34\n<b xmlns=\"v\" xmlns:p=\"u\" p:k=\"1\"/>\nok 0\n\nok 45\n<p:a xmlns:p=\"u\" xmlns=\"v\"><b p:k=\"1\"/></p:a>\n",
+        ),
+        (
+            "CREATE DB d <!--c--><a xmlns:p=\"u\"><?s h?>t<!--d--><p:b>x</p:b>y</a><?e?>\nXQUERY /\nXQUERY //*/*\nCREATE DB e <!--c--><a xmlns:p=\"u\"><?s h?>t<!--d--><p:b>x</p:b>y</a><?e?>\nXQUERY /\n",
+            "ok 0\n\nok 61\n<!--c--><a xmlns:p=\"u\"><?s h?>t<!--d--><p:b>x</p:b>y</a><?e?>\nok 24\n<p:b xmlns:p=\"u\">x</p:b>\nok 0\n\nok 61\n<!--c--><a xmlns:p=\"u\"><?s h?>t<!--d--><p:b>x</p:b>y</a><?e?>\n",
+        ),
+        (
+            "CREATE DB d <a xmlns=\"u\">x<b xmlns=\"\">y<c xmlns=\"u\">z</c></b></a>\nXQUERY /\nXQUERY //*/*\nCREATE DB e <a xmlns=\"u\">x<b xmlns=\"\">y<c xmlns=\"u\">z</c></b></a>\nXQUERY /\n",
+            "ok 0\n\nok 53\n<a xmlns=\"u\">x<b xmlns=\"\">y<c xmlns=\"u\">z</c></b></a>\nok 54\n<b xmlns=\"\">y<c xmlns=\"u\">z</c></b>\n<c xmlns=\"u\">z</c>\nok 0\n\nok 53\n<a xmlns=\"u\">x<b xmlns=\"\">y<c xmlns=\"u\">z</c></b></a>\n",
+        ),
+        (
+            "CREATE DB d <a xmlns:p1=\"u\" xmlns:p2=\"u\" xmlns:p3=\"u\" p1:x=\"\" p2:y=\"\" p3:z=\"\"/>\nXQUERY /\nXQUERY //*/*\nCREATE DB e <a xmlns:p1=\"u\" xmlns:p2=\"u\" xmlns:p3=\"u\" p1:x=\"\" p2:y=\"\" p3:z=\"\"/>\nXQUERY /\n",
+            "ok 0\n\nok 67\n<a xmlns:p1=\"u\" xmlns:p2=\"u\" xmlns:p3=\"u\" p1:x=\"\" p2:y=\"\" p3:z=\"\"/>\nok 0\n\nok 0\n\nok 67\n<a xmlns:p1=\"u\" xmlns:p2=\"u\" xmlns:p3=\"u\" p1:x=\"\" p2:y=\"\" p3:z=\"\"/>\n",
+        ),
+        (
+            "CREATE DB d <r><a xmlns=\"1\"><b xmlns=\"2\"><c xmlns=\"3\"/></b></a><a/></r>\nXQUERY /\nXQUERY //*/*\nCREATE DB e <r><a xmlns=\"1\"><b xmlns=\"2\"><c xmlns=\"3\"/></b></a><a/></r>\nXQUERY /\n",
+            "ok 0\n\nok 59\n<r><a xmlns=\"1\"><b xmlns=\"2\"><c xmlns=\"3\"/></b></a><a/></r>\nok 100\n<a xmlns=\"1\"><b xmlns=\"2\"><c xmlns=\"3\"/></b></a>\n<b xmlns=\"2\"><c xmlns=\"3\"/></b>\n<c xmlns=\"3\"/>\n<a/>\nok 0\n\nok 59\n<r><a xmlns=\"1\"><b xmlns=\"2\"><c xmlns=\"3\"/></b></a><a/></r>\n",
+        ),
+        (
+            "CREATE DB d <r xmlns:p=\"1\"><p:a><p:b xmlns:p=\"2\" p:k=\"\"/></p:a><p:c p:k=\"\"/></r>\nXQUERY /\nXQUERY //*/*\nCREATE DB e <r xmlns:p=\"1\"><p:a><p:b xmlns:p=\"2\" p:k=\"\"/></p:a><p:c p:k=\"\"/></r>\nXQUERY /\n",
+            "ok 0\n\nok 68\n<r xmlns:p=\"1\"><p:a><p:b xmlns:p=\"2\" p:k=\"\"/></p:a><p:c p:k=\"\"/></r>\nok 100\n<p:a xmlns:p=\"1\"><p:b xmlns:p=\"2\" p:k=\"\"/></p:a>\n<p:b xmlns:p=\"2\" p:k=\"\"/>\n<p:c xmlns:p=\"1\" p:k=\"\"/>\nok 0\n\nok 68\n<r xmlns:p=\"1\"><p:a><p:b xmlns:p=\"2\" p:k=\"\"/></p:a><p:c p:k=\"\"/></r>\n",
+        ),
+        (
+            "CREATE DB d <r xmlns:é=\"ü\"><é:a é:k=\"ö\"/></r>\nXQUERY /\nXQUERY //*/*\nCREATE DB e <r xmlns:é=\"ü\"><é:a é:k=\"ö\"/></r>\nXQUERY /\n",
+            "ok 0\n\nok 38\n<r xmlns:é=\"ü\"><é:a é:k=\"ö\"/></r>\nok 31\n<é:a xmlns:é=\"ü\" é:k=\"ö\"/>\nok 0\n\nok 38\n<r xmlns:é=\"ü\"><é:a é:k=\"ö\"/></r>\n",
+        ),
+        (
+            "CREATE DB d <r xmlns=\"u\"><s xmlns:xsi=\"w\" xsi:type=\"t\"><xsi:t/></s></r>\nXQUERY /\nXQUERY //*/*\nCREATE DB e <r xmlns=\"u\"><s xmlns:xsi=\"w\" xsi:type=\"t\"><xsi:t/></s></r>\nXQUERY /\n",
+            "ok 0\n\nok 59\n<r xmlns=\"u\"><s xmlns:xsi=\"w\" xsi:type=\"t\"><xsi:t/></s></r>\nok 75\n<s xmlns:xsi=\"w\" xmlns=\"u\" xsi:type=\"t\"><xsi:t/></s>\n<xsi:t xmlns:xsi=\"w\"/>\nok 0\n\nok 59\n<r xmlns=\"u\"><s xmlns:xsi=\"w\" xsi:type=\"t\"><xsi:t/></s></r>\n",
+        ),
+        (
+            "CREATE DB d <a xmlns=\"u\"><b xmlns=\"v\" xmlns:p=\"u\"><p:c/><c/></b></a>\nXQUERY /\nXQUERY //*/*\nCREATE DB e <a xmlns=\"u\"><b xmlns=\"v\" xmlns:p=\"u\"><p:c/><c/></b></a>\nXQUERY /\n",
+            "ok 0\n\nok 56\n<a xmlns=\"u\"><b xmlns=\"v\" xmlns:p=\"u\"><p:c/><c/></b></a>\nok 73\n<b xmlns=\"v\" xmlns:p=\"u\"><p:c/><c/></b>\n<p:c xmlns:p=\"u\"/>\n<c xmlns=\"v\"/>\nok 0\n\nok 56\n<a xmlns=\"u\"><b xmlns=\"v\" xmlns:p=\"u\"><p:c/><c/></b></a>\n",
+        ),
+    ];
+    assert!(rt; are_answered(&rt, &table)?);
+    Ok(())
+}
+
+#[test]
+fn rows_show_declarations(rt: HostRuntime) -> Result<(), Fail> {
     assert!(rt;
         is_answered(
             &rt,
-            b"CREATE DB n <a><p:b xmlns:p=\"u\" xmlns=\"v\"><c p:k=\"1\"/></p:b></a>\nXQUERY /a\n",
-            b"ok 0\n\nok 52\n<a><p:b xmlns:p=\"u\"><c xmlns=\"v\" p:k=\"1\"/></p:b></a>\n",
+            b"TABLE <a xmlns:p=\"u\"/>\nTABLE <p:a xmlns='' xmlns:p='u&#10;v\\'/>\n",
+            b"ok 48\n0 0 2 1 0 doc table\n1 1 1 1 1 elem a xmlns:p=\"u\"\nok 72\n0 0 2 1 0 doc table\n1 1 1 1 1 elem {u\\nv\\\\}p:a xmlns=\"\" xmlns:p=\"u\\nv\\\\\"\n",
             0,
         )?
     );

@@ -1,19 +1,21 @@
 // The rows of documents.
-ghost use Rattle.std.specs.Prelude.{◌≡◌, ◌+◌, ◌<◌, ◌≤◌, ◌^◌, ◌++◌, [], None, length, take, drop, IfOk, OnOk, OnErr};
-ghost use Rattle.std.specs.Bool.{Decides};
+ghost use Rattle.std.specs.Prelude.{◌≡◌, ◌+◌, ◌<◌, ◌≤◌, ◌^◌, ◌++◌, [], List, None, length, take, drop, IfOk, OnOk, OnErr};
 ghost use Rattle.std.specs.List.{slice_index_or};
+ghost use Rattle.frame_pool.specs.Frames.{Held};
 ghost use Rattle.tree_model.specs.Forest.{IsFlat, grove_of};
 ghost use Rattle.tree_model.specs.Nodes.{parent_places};
 ghost use Rattle.tree_model.specs.Rows.{entry_lines};
-ghost use Rattle.node_table.specs.Tables.{HasCountedRow, with_rows};
+ghost use Rattle.tree_model.specs.declared.row.Row.{Row as TableRow};
+ghost use Rattle.node_table.specs.Tables.{rows_in, IsIn, KeepsTables, HasCountedRow, with_rows};
 
+use crate::reader::RowReader;
 use frame_pool::{Meter, Pool};
 use std::alloc::Global;
 use std::marker::Model;
 use tree_model::{NoMemory, Row};
 
 /// The rows of documents in document order, at most 2^24. The place of a row is its pre number. Names and values lie
-/// elsewhere. Contracts see the list of the rows, which stand for the forest that they say where they are flat.
+/// elsewhere. A table has its rows together with its pool: contracts see them as a function of both.
 #[derive(Debug, Drop)]
 pub struct NodeTable {
     rows: Vec<Row>,
@@ -32,8 +34,10 @@ impl Model for NodeTable {
 
 impl NodeTable {
     /// A table without rows. Takes no memory.
+    #[tactic(auto, unfolding(crate::specs::Tables::rows_in, crate::specs::Tables::IsIn))]
     pub fn new(alloc: Global) -> NodeTable
-        ensures { result ≡ [] }
+        ensures rows { (pool : List (Held TableRow)) → rows_in pool result ≡ [] }
+        ensures held { (pool : List (Held TableRow)) → IsIn pool result }
     {
         NodeTable {
             rows: Vec::new(alloc),
@@ -41,30 +45,29 @@ impl NodeTable {
     }
 
     /// The number of rows.
+    #[tactic(auto, unfolding(crate::specs::Tables::rows_in, crate::specs::Tables::IsIn))]
     pub fn len(&self) -> u32
-        ensures len { result ≡ length self.now }
+        ensures len { (pool : List (Held TableRow)) → IsIn pool self.now → result ≡ length (rows_in pool self.now) }
         ensures most { result ≤ 2 ^ 24 }
     {
         self.rows.len() as u32
     }
 
-    pub fn is_empty(&self) -> bool
-        ensures { Decides result (self.now ≡ []) }
+    /// A reader of the rows, which remembers where it is, so that the next row is near.
+    #[tactic(auto, unfolding(crate::specs::Tables::rows_in, crate::specs::Tables::IsIn))]
+    pub fn reader<'t>(&'t self, _pool: &'t Pool<Row>) -> RowReader<'t>
+        requires held { IsIn _pool.now self.now }
+        ensures { result ≡ rows_in _pool.now self.now }
     {
-        self.rows.is_empty()
-    }
-
-    /// All rows, for what walks over whole subtrees. No row is counted as read.
-    pub fn rows<'t>(&'t self, _pool: &'t Pool<Row>) -> &'t [Row]
-        ensures { result.now ≡ self.now }
-    {
-        self.rows.as_slice()
+        RowReader::over(self.rows.as_slice())
     }
 
     /// The row at a pre number.
+    #[tactic(auto, unfolding(crate::specs::Tables::rows_in, crate::specs::Tables::IsIn))]
     pub fn row(&self, _pool: &Pool<Row>, pre: u32, meter: &mut Meter) -> Row
-        requires within { pre < length self.now }
-        ensures row { result ≡ slice_index_or self.now pre result }
+        requires held { IsIn _pool.now self.now }
+        requires within { pre < length (rows_in _pool.now self.now) }
+        ensures row { result ≡ slice_index_or (rows_in _pool.now self.now) pre result }
         ensures meter { HasCountedRow meter.old meter.new }
     {
         meter.count_row();
@@ -73,9 +76,10 @@ impl NodeTable {
 
     /// The pre number of the parent of the node at a pre number: None exactly where the node is a document.
     pub fn parent(&self, pool: &Pool<Row>, pre: u32, meter: &mut Meter) -> Option<u32>
-        requires flat { IsFlat (entry_lines self.now) }
-        requires within { pre < length self.now }
-        ensures parent { result ≡ slice_index_or (parent_places (grove_of (entry_lines self.now))) pre None }
+        requires held { IsIn pool.now self.now }
+        requires flat { IsFlat (entry_lines (rows_in pool.now self.now)) }
+        requires within { pre < length (rows_in pool.now self.now) }
+        ensures parent { result ≡ slice_index_or (parent_places (grove_of (entry_lines (rows_in pool.now self.now)))) pre None }
         ensures meter { HasCountedRow meter.old meter.new }
     {
         let row = self.row(pool, pre, meter);
@@ -86,16 +90,20 @@ impl NodeTable {
     }
 
     /// Puts the rows of documents before the row at `at`, which is that of a document, or behind all rows.
+    #[tactic(auto, unfolding(crate::specs::Tables::rows_in, crate::specs::Tables::IsIn))]
     pub fn insert_documents(
         &mut self,
         _pool: &mut Pool<Row>,
         at: u32,
         rows: Vec<Row>,
     ) -> Result<(), NoMemory>
-        requires within { at ≤ length self.old }
-        requires few { length self.old + length rows.items ≤ 2 ^ 24 }
-        ensures ok { OnOk result (self.new ≡ with_rows at rows.items self.old) }
+        requires held { IsIn _pool.old self.old }
+        requires within { at ≤ length (rows_in _pool.old self.old) }
+        requires few { length (rows_in _pool.old self.old) + length rows.items ≤ 2 ^ 24 }
+        ensures ok { OnOk result (rows_in _pool.new self.new ≡ with_rows at rows.items (rows_in _pool.old self.old)) }
+        ensures held { OnOk result (IsIn _pool.new self.new) }
         ensures err { OnErr result (self.new ≡ self.old) }
+        ensures others { KeepsTables _pool.old _pool.new }
     {
         if self.rows.is_empty() {
             self.rows = rows;
@@ -112,15 +120,21 @@ impl NodeTable {
     }
 
     /// An equal table.
+    #[tactic(auto, unfolding(crate::specs::Tables::rows_in, crate::specs::Tables::IsIn))]
     pub fn branch(&self, _pool: &mut Pool<Row>) -> Result<NodeTable, NoMemory>
-        ensures { IfOk result (λ table. table ≡ self.now) }
+        requires held { IsIn _pool.old self.now }
+        ensures rows { IfOk result (λ table. rows_in _pool.new table ≡ rows_in _pool.old self.now) }
+        ensures held { IfOk result (λ table. IsIn _pool.new table) }
+        ensures others { KeepsTables _pool.old _pool.new }
     {
         let rows = self.rows.clone()?;
         Ok(NodeTable { rows })
     }
 
     /// Gives the rows up. Takes no memory.
-    pub fn give_up(self, _pool: &mut Pool<Row>) {}
+    pub fn give_up(self, _pool: &mut Pool<Row>)
+        ensures others { KeepsTables _pool.old _pool.new }
+    {}
 }
 
 // Rows with others among them.

@@ -18,7 +18,7 @@ fn row(kind: Kind, dist: u32, size: u32, id: u32) -> Row {
 
 #[test]
 fn documents_are_put_in(rt: HostRuntime) -> Result<(), Fail> {
-    let mut pool = Pool::new();
+    let mut pool = Pool::new(rt.alloc());
     let mut meter = Meter::new();
     let mut table = NodeTable::new(rt.alloc());
     let first = vec![in rt.alloc(); row(Kind::Doc, 0, 2, 0), row(Kind::Elem, 1, 1, 1)]?;
@@ -30,7 +30,10 @@ fn documents_are_put_in(rt: HostRuntime) -> Result<(), Fail> {
     assert_eq!(rt; table.row(&pool, 2, &mut meter).id, 1);
     assert_eq!(rt; meter.rows_read, 2);
     let other = table.branch(&mut pool)?;
-    assert_eq!(rt; other.rows(&pool), table.rows(&pool));
+    let mut reader = other.reader(&pool);
+    assert_eq!(rt; reader.len(), 3);
+    assert_eq!(rt; reader.row(2, &mut meter).id, 1);
+    assert_eq!(rt; meter.rows_read, 3);
     other.give_up(&mut pool);
     Ok(())
 }

@@ -1,5 +1,5 @@
 -- A printed document is in UTF-8, and each of its characters is a Char: escaping changes ASCII bytes alone, and markup is ASCII.
-use Rattle.std.proofs.Common.{◌≡◌, inl, inr, ℕ, suc, ◌<◌, ◌≤◌, Bool, true, false, cond, not, ◌||◌, List, [], ◌∷◌, ◌++◌, map, length, get_or, Option, refl, sym, ap₂, ◌∙◌, subst, arith, append-nil}
+use Rattle.std.proofs.Common.{◌≡◌, inl, inr, ℕ, suc, ◌<◌, ◌≤◌, Bool, true, false, cond, not, ◌||◌, List, [], ◌∷◌, ◌++◌, map, length, get_or, Option, refl, sym, ap, ap₂, ◌∙◌, subst, arith, append-nil}
 use Rattle.std.specs.Prelude.{⊤, codes, filter}
 use Rattle.std.specs.List.{flat_map, list_all}
 use Rattle.std.specs.Str.{chars, encode_utf8_all}
@@ -8,10 +8,11 @@ use Rattle.std.proofs.lemmas.Bool.{and_parts, false≢true, cases_lt}
 use Rattle.std.proofs.lemmas.List.Folds.{list_all-append}
 use Rattle.std.proofs.lemmas.Grind.{flat_map-append}
 use Rattle.std.proofs.lemmas.Str.{IsUtf8-from_is_utf8, encode_ascii, encodes-chars, inside_one}
+use Rattle.tree_model.specs.Declarations.{declarations_of, declared_name}
 use Rattle.tree_model.specs.Forest.{Forest, none, tree, walk}
 use Rattle.tree_model.specs.Labels.{Label}
-use Rattle.tree_model.specs.Printing.{escape_data, escape_value, data_text, value_text, is_bound, binding_of, wanted, declarations, scope_in, declared_name, declaration_text, written_name, attr_text, start_text, end_text, pi_text, elem_text, tree_text, has_trees, trees_text}
-use Rattle.tree_model.specs.Sound.{is_empty, is_good_name, is_target, has_no_name, is_good_node, are_chars, is_good_label, prefixed_names}
+use Rattle.tree_model.specs.Printing.{escape_data, escape_value, data_text, value_text, is_bound, wanted, behind, added, declarations, scope_in, declaration_text, written_name, attr_text, start_text, end_text, pi_text, elem_text, tree_text, has_trees, trees_text}
+use Rattle.tree_model.specs.Sound.{is_empty, is_good_name, is_target, has_no_name, is_good_node, spells_declarations, are_chars, has_chars, is_good_label, is_attr, prefixed_names, binding_of, fits, owns, Kept}
 use Rattle.tree_model.specs.XmlChars.{is_xml_char, is_xml_ncname}
 use Rattle.tree_model.specs.XmlSource.{Part}
 use Rattle.tree_model.specs.XmlMeaning.{Pair, Scope}
@@ -20,6 +21,8 @@ use Rattle.tree_model.specs.declared.row.Kind.TheVariants.{Doc, Elem, Text, Attr
 use Rattle.tree_model.specs.declared.text.Name.{Name}
 use Rattle.tree_model.proofs.XmlUtf8.{IsTextOfChars, text_nil, text_append, text_of_char, text_of_byte, text_ascii, text_ncname}
 use Rattle.round_trip.proofs.Values.{by_data, by_value}
+use Rattle.round_trip.proofs.Scopes.{AreDeclaring, are_declaring, spelled_parts}
+use Rattle.round_trip.proofs.Written.{attr_kind, borne}
 
 -- a printed text is in UTF-8, and its characters are Chars: `utf8` and `chars`
 abbrev pub ArePrinted : List ℕ → Type 0
@@ -90,10 +93,6 @@ record IsNameText (name : Name) : Type 0 where
   prefix : IsTextOfChars name.prefix
   local : IsTextOfChars name.local
 
-record IsLabelText (label : Label) : Type 0 where
-  name : IsNameText label.name
-  value : IsTextOfChars label.value
-
 text_from : (bytes : List ℕ) → are_chars bytes ≡ true → IsTextOfChars bytes
 text_from bytes h = let p = and_parts _ _ h in record { utf8 = IsUtf8-from_is_utf8 bytes p.0; chars = p.1 }
 
@@ -132,20 +131,31 @@ node_parts Attr name value h = good_parts name (and_parts _ _ h).0
 node_parts Comm name value h = no_parts name (and_parts _ _ h).0
 node_parts Pi name value h = target_parts name (and_parts _ _ h).0
 
-label_text : (label : Label) → is_good_label label ≡ true → IsLabelText label
-label_text label h =
-    let p = and_parts _ (are_chars label.value) h in
-    let q = and_parts (is_good_node label.kind label.name label.value) (are_chars label.name.uri) p.0 in
-    let parts = node_parts label.kind label.name label.value q.0 in
-    record { name = record { uri = text_from label.name.uri q.1; prefix = parts.prefix; local = parts.local }; value = text_from label.value p.1 }
+label_name : (label : Label) → is_good_label label ≡ true → IsNameText label.name
+label_name label h =
+    let p = and_parts (is_good_node label.kind label.name label.value) (are_chars label.name.uri) (and_parts _ (has_chars label.kind label.value) h).0 in
+    let parts = node_parts label.kind label.name label.value p.0 in
+    record { uri = text_from label.name.uri p.1; prefix = parts.prefix; local = parts.local }
 
-abbrev AreLabelTexts : List Label → Type 0
-AreLabelTexts [] = ⊤
-AreLabelTexts (label ∷ labels) = IsLabelText label × AreLabelTexts labels
+record IsAttrText (label : Label) : Type 0 where
+  name : IsNameText label.name
+  value : IsTextOfChars label.value
 
-label_texts : (labels : List Label) → list_all is_good_label labels ≡ true → AreLabelTexts labels
-label_texts [] h = tt
-label_texts (label ∷ labels) h = let p = and_parts (is_good_label label) (list_all is_good_label labels) h in (label_text label p.0, label_texts labels p.1)
+attr_label_text : (label : Label) → is_attr label ≡ true → is_good_label label ≡ true → IsAttrText label
+attr_label_text label a h =
+    let chars : has_chars label.kind label.value ≡ true = (and_parts _ (has_chars label.kind label.value) h).1 in
+    record { name = label_name label h; value = text_from label.value (sym (ap (λ (k : Kind). has_chars k label.value) (attr_kind label a)) ∙ chars) }
+
+abbrev AreAttrTexts : List Label → Type 0
+AreAttrTexts [] = ⊤
+AreAttrTexts (label ∷ labels) = IsAttrText label × AreAttrTexts labels
+
+attr_label_texts : (labels : List Label) → list_all is_attr labels ≡ true → list_all is_good_label labels ≡ true → AreAttrTexts labels
+attr_label_texts [] a h = tt
+attr_label_texts (label ∷ labels) a h =
+    let p = and_parts (is_attr label) (list_all is_attr labels) a in
+    let q = and_parts (is_good_label label) (list_all is_good_label labels) h in
+    (attr_label_text label p.0 q.0, attr_label_texts labels p.1 q.1)
 
 written_text : (name : Name) → IsNameText name → IsTextOfChars (written_name name)
 unfolding written_name
@@ -161,7 +171,7 @@ abbrev AreNameTexts : List Name → Type 0
 AreNameTexts [] = ⊤
 AreNameTexts (name ∷ names) = IsNameText name × AreNameTexts names
 
-filtered_names : (test : Name → Bool) (attrs : List Label) → AreLabelTexts attrs → AreNameTexts (filter test (map (λ (a : Label). a.name) attrs))
+filtered_names : (test : Name → Bool) (attrs : List Label) → AreAttrTexts attrs → AreNameTexts (filter test (map (λ (a : Label). a.name) attrs))
 filtered_names test [] t = tt
 filtered_names test (a ∷ attrs) t = by (test a.name) (filtered_names test attrs t.1)
   where
@@ -185,6 +195,14 @@ wanted_texts scope (name ∷ names) t = by (is_bound scope name) (wanted_texts s
     by true without more = without
     by false without more = (record { prefix = t.0.prefix; uri = t.0.uri }, more)
 
+own_texts : (bindings : List Pair) → AreDeclaring bindings → AreBindingTexts bindings
+own_texts [] d = tt
+own_texts (binding ∷ bindings) d = (record { prefix = text_prefix binding.0 d.0.prefix; uri = text_from binding.1 d.0.uri_chars }, own_texts bindings d.1)
+
+joined_texts : (xs ys : List Pair) → AreBindingTexts xs → AreBindingTexts ys → AreBindingTexts (xs ++ ys)
+joined_texts [] ys t u = u
+joined_texts (x ∷ xs) ys t u = (t.0, joined_texts xs ys t.1 u)
+
 declared_text : (prefix : List ℕ) → IsTextOfChars prefix → IsTextOfChars (declared_name prefix)
 declared_text [] t = text_ascii (codes "xmlns") refl refl
 declared_text (c ∷ prefix) t = text_append (codes "xmlns:") (c ∷ prefix) (text_ascii (codes "xmlns:") refl refl) t
@@ -204,35 +222,65 @@ declaration_texts (binding ∷ bindings) t =
 
 -- ---- nodes
 
-attr_chars : (attr : Label) → IsLabelText attr → IsTextOfChars (attr_text attr)
+-- a value has Chars alone, and so have an element's declarations
+abbrev IsValueText : Kind → List ℕ → Type 0
+IsValueText Doc value = IsTextOfChars value
+IsValueText Elem value = AreBindingTexts (declarations_of value)
+IsValueText Text value = IsTextOfChars value
+IsValueText Attr value = IsTextOfChars value
+IsValueText Comm value = IsTextOfChars value
+IsValueText Pi value = IsTextOfChars value
+
+record IsNodeText (label : Label) : Type 0 where
+  name : IsNameText label.name
+  value : IsValueText label.kind label.value
+
+value_is_text : (kind : Kind) (name : Name) (value : List ℕ) → is_good_node kind name value ≡ true → has_chars kind value ≡ true → IsValueText kind value
+value_is_text Doc name value g h = text_from value h
+value_is_text Elem name value g h =
+    own_texts (declarations_of value) (are_declaring (declarations_of value) (spelled_parts value (and_parts (is_good_name name) (spells_declarations value) g).1).good)
+value_is_text Text name value g h = text_from value h
+value_is_text Attr name value g h = text_from value h
+value_is_text Comm name value g h = text_from value h
+value_is_text Pi name value g h = text_from value h
+
+node_text : (label : Label) → is_good_label label ≡ true → IsNodeText label
+node_text label h =
+    let p = and_parts _ (has_chars label.kind label.value) h in
+    let q = and_parts (is_good_node label.kind label.name label.value) (are_chars label.name.uri) p.0 in
+    record { name = label_name label h; value = value_is_text label.kind label.name label.value q.0 p.1 }
+
+attr_chars : (attr : Label) → IsAttrText attr → IsTextOfChars (attr_text attr)
 attr_chars attr t = quoted_text (written_name attr.name) attr.value (written_text attr.name t.name) t.value
 
-attrs_chars : (attrs : List Label) → AreLabelTexts attrs → IsTextOfChars (flat_map (λ (attr : Label). 32 ∷ attr_text attr) attrs)
+attrs_chars : (attrs : List Label) → AreAttrTexts attrs → IsTextOfChars (flat_map (λ (attr : Label). 32 ∷ attr_text attr) attrs)
 attrs_chars [] t = text_nil
 attrs_chars (attr ∷ attrs) t = text_append (32 ∷ attr_text attr) _ (spaced_text (attr_text attr) (attr_chars attr t.0)) (attrs_chars attrs t.1)
 
-start_chars : (scope : Scope) (label : Label) (attrs : List Label) → IsLabelText label → AreLabelTexts attrs → IsTextOfChars (start_text scope label attrs)
-start_chars scope label attrs t ts =
-    let bindings = wanted_texts scope (prefixed_names label attrs) (t.name, filtered_names (λ (name : Name). not (is_empty name.prefix)) attrs ts) in
+start_chars : (scope : Scope) (label : Label) (attrs : List Label) → IsNameText label.name → AreBindingTexts (declarations_of label.value) → AreAttrTexts attrs → IsTextOfChars (start_text scope label attrs)
+start_chars scope label attrs t own ts =
+    let more = wanted_texts (behind (declarations_of label.value) scope) (prefixed_names label attrs) (t, filtered_names (λ (name : Name). not (is_empty name.prefix)) attrs ts) in
+    let bindings = joined_texts (declarations_of label.value) (added scope label attrs) own more in
     text_append (60 ∷ []) _ (text_of_byte 60 (omega arith) refl)
-    (text_append (written_name label.name) _ (written_text label.name t.name)
+    (text_append (written_name label.name) _ (written_text label.name t)
     (text_append (flat_map declaration_text (declarations scope label attrs)) _ (declaration_texts (declarations scope label attrs) bindings) (attrs_chars attrs ts)))
 
-end_chars : (label : Label) → IsLabelText label → IsTextOfChars (end_text label)
+end_chars : (label : Label) → IsNameText label.name → IsTextOfChars (end_text label)
 end_chars label t =
-    text_append (60 ∷ 47 ∷ []) _ (text_ascii (60 ∷ 47 ∷ []) refl refl) (text_append (written_name label.name) (62 ∷ []) (written_text label.name t.name) (text_of_byte 62 (omega arith) refl))
+    text_append (60 ∷ 47 ∷ []) _ (text_ascii (60 ∷ 47 ∷ []) refl refl) (text_append (written_name label.name) (62 ∷ []) (written_text label.name t) (text_of_byte 62 (omega arith) refl))
 
-elem_chars : (scope : Scope) (label : Label) (attrs : List Label) (has_kids : Bool) (kids : List ℕ) → IsLabelText label → AreLabelTexts attrs → IsTextOfChars kids → IsTextOfChars (elem_text scope label attrs has_kids kids)
-elem_chars scope label attrs true kids t ts k =
-    text_append (start_text scope label attrs) _ (start_chars scope label attrs t ts)
+elem_chars : (scope : Scope) (label : Label) (attrs : List Label) (has_kids : Bool) (kids : List ℕ) → IsNameText label.name → AreBindingTexts (declarations_of label.value) → AreAttrTexts attrs → IsTextOfChars kids
+    → IsTextOfChars (elem_text scope label attrs has_kids kids)
+elem_chars scope label attrs true kids t own ts k =
+    text_append (start_text scope label attrs) _ (start_chars scope label attrs t own ts)
     (text_append (62 ∷ []) _ (text_of_byte 62 (omega arith) refl) (text_append kids (end_text label) k (end_chars label t)))
-elem_chars scope label attrs false kids t ts k = text_append (start_text scope label attrs) (codes "/>") (start_chars scope label attrs t ts) (text_ascii (codes "/>") refl refl)
+elem_chars scope label attrs false kids t own ts k = text_append (start_text scope label attrs) (codes "/>") (start_chars scope label attrs t own ts) (text_ascii (codes "/>") refl refl)
 
 comm_chars : (value : List ℕ) → IsTextOfChars value → IsTextOfChars (codes "<!--" ++ (value ++ codes "-->"))
 comm_chars value t = text_append (codes "<!--") _ (text_ascii (codes "<!--") refl refl) (text_append value (codes "-->") t (text_ascii (codes "-->") refl refl))
 
-pi_chars : (label : Label) → IsLabelText label → IsTextOfChars (pi_text label)
-pi_chars label t = by label.kind label.id label.name label.value t.name t.value
+pi_chars : (label : Label) → IsNameText label.name → IsTextOfChars label.value → IsTextOfChars (pi_text label)
+pi_chars label n v = by label.kind label.id label.name label.value n v
   where
     by : (kind : Kind) (id : ℕ) (name : Name) (value : List ℕ) → IsNameText name → IsTextOfChars value → IsTextOfChars (pi_text (record { kind = kind; id = id; name = name; value = value }))
     by kind id name [] n v =
@@ -241,27 +289,26 @@ pi_chars label t = by label.kind label.id label.name label.value t.name t.value
         text_append (codes "<?") _ (text_ascii (codes "<?") refl refl)
         (text_append (written_name name) _ (written_text name n) (spaced_text _ (text_append (c ∷ value) (codes "?>") v (text_ascii (codes "?>") refl refl))))
 
-tree_chars : (scope : Scope) (label : Label) (attrs : List Label) (has_kids : Bool) (kids : List ℕ) → IsLabelText label → AreLabelTexts attrs → IsTextOfChars kids → IsTextOfChars (tree_text scope label attrs has_kids kids)
-tree_chars scope label attrs has_kids kids t ts k = by label.kind label.id label.name label.value t
+tree_chars : (scope : Scope) (label : Label) (attrs : List Label) (has_kids : Bool) (kids : List ℕ) → IsNodeText label → AreAttrTexts attrs → IsTextOfChars kids → IsTextOfChars (tree_text scope label attrs has_kids kids)
+tree_chars scope label attrs has_kids kids t ts k = by label.kind label.id label.name label.value t.name t.value
   where
-    by : (kind : Kind) (id : ℕ) (name : Name) (value : List ℕ) → IsLabelText (record { kind = kind; id = id; name = name; value = value })
-        → IsTextOfChars (tree_text scope (record { kind = kind; id = id; name = name; value = value }) attrs has_kids kids)
-    by Doc id name value t = k
-    by Elem id name value t = elem_chars scope (record { kind = Elem; id = id; name = name; value = value }) attrs has_kids kids t ts k
-    by Text id name value t = data_chars value t.value
-    by Attr id name value t = attr_chars (record { kind = Attr; id = id; name = name; value = value }) t
-    by Comm id name value t = comm_chars value t.value
-    by Pi id name value t = pi_chars (record { kind = Pi; id = id; name = name; value = value }) t
+    by : (kind : Kind) (id : ℕ) (name : Name) (value : List ℕ) → IsNameText name → IsValueText kind value → IsTextOfChars (tree_text scope (record { kind = kind; id = id; name = name; value = value }) attrs has_kids kids)
+    by Doc id name value n v = k
+    by Elem id name value n v = elem_chars scope (record { kind = Elem; id = id; name = name; value = value }) attrs has_kids kids n v ts k
+    by Text id name value n v = data_chars value v
+    by Attr id name value n v = attr_chars (record { kind = Attr; id = id; name = name; value = value }) (record { name = n; value = v })
+    by Comm id name value n v = comm_chars value v
+    by Pi id name value n v = pi_chars (record { kind = Pi; id = id; name = name; value = value }) n v
 
-pub printed_chars : (scope : Scope) (f : Forest Label) → list_all is_good_label (walk f) ≡ true → ArePrinted (trees_text scope f)
-printed_chars scope none h = text_nil
-printed_chars scope (tree label attrs kids rest) h =
+pub printed_chars : (scope : Scope) (f : Forest Label) → Kept fits owns f → list_all is_good_label (walk f) ≡ true → ArePrinted (trees_text scope f)
+printed_chars scope none places h = text_nil
+printed_chars scope (tree label attrs kids rest) places h =
     let own = and_parts (is_good_label label) (list_all is_good_label (attrs ++ (walk kids ++ walk rest))) h in
     let others = both attrs (walk kids ++ walk rest) own.1 in
     let trees = both (walk kids) (walk rest) others.1 in
     text_append (tree_text scope label attrs (has_trees kids) (trees_text (scope_in scope label attrs) kids)) (trees_text scope rest)
-    (tree_chars scope label attrs (has_trees kids) (trees_text (scope_in scope label attrs) kids) (label_text label own.0) (label_texts attrs others.0) (printed_chars (scope_in scope label attrs) kids trees.0))
-    (printed_chars scope rest trees.1)
+    (tree_chars scope label attrs (has_trees kids) (trees_text (scope_in scope label attrs) kids) (node_text label own.0) (attr_label_texts attrs (borne label attrs places.0) others.0) (printed_chars (scope_in scope label attrs) kids places.2 trees.0))
+    (printed_chars scope rest places.3 trees.1)
   where
     both : (a b : List Label) → list_all is_good_label (a ++ b) ≡ true → (list_all is_good_label a ≡ true) × (list_all is_good_label b ≡ true)
     both a b h = and_parts _ _ (sym (list_all-append is_good_label a b) ∙ h)

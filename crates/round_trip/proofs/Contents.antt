@@ -68,9 +68,9 @@ label_of kind id name value = record { kind = kind; id = id; name = name; value 
 abbrev pub leaf : Label → Forest Label → Forest Label
 leaf label rest = tree label [] none rest
 
-pub leaf_is : (label : Label) (attrs : List Label) (kids rest : Forest Label) → is_elem label ≡ false → (is_doc label || is_elem label) ≡ false → AreNodeParts label attrs kids rest
+pub leaf_is : (scope : Scope) (label : Label) (attrs : List Label) (kids rest : Forest Label) → is_elem label ≡ false → (is_doc label || is_elem label) ≡ false → AreNodeParts scope label attrs kids rest
     → (P : List Label → Forest Label → Type 0) → P [] none → P attrs kids
-leaf_is label attrs kids rest e d parts P h =
+leaf_is scope label attrs kids rest e d parts P h =
     subst (λ (k : Forest Label). P attrs k) (sym (no_kids label kids parts.fit d)) (subst (λ (a : List Label). P a none) (sym (no_attrs label attrs parts.owner e)) h)
 
 -- ---- texts
@@ -144,8 +144,9 @@ inside_fault : (scope : Scope) (label : Label) (attrs : List Label) → IsTagCut
     → tag_faults (with_attrs (map pair_of (tag_cut scope label attrs)) scope) at (written_name label.name) (map pair_of (tag_cut scope label attrs)) ≡ []
 inside_fault scope label attrs t at = no_tag_fault _ at (written_name label.name) (map pair_of (tag_cut scope label attrs)) (ap (λ (s : Scope). is_bad_tag s (written_name label.name) (map pair_of (tag_cut scope label attrs))) t.inside ∙ t.allowed)
 
-tag_label_is : (scope : Scope) (label : Label) (attrs : List Label) → IsTagCut scope label attrs → tag_label (with_attrs (map pair_of (tag_cut scope label attrs)) scope) (written_name label.name) ≡ with_id 0 label
-tag_label_is scope label attrs t = ap (λ (s : Scope). tag_label s (written_name label.name)) t.inside ∙ t.label_is
+tag_label_is : (scope : Scope) (label : Label) (attrs : List Label) → IsTagCut scope label attrs
+    → tag_label (with_attrs (map pair_of (tag_cut scope label attrs)) scope) (written_name label.name) (map pair_of (tag_cut scope label attrs)) ≡ with_id 0 label
+tag_label_is scope label attrs t = ap (λ (s : Scope). tag_label s (written_name label.name) (map pair_of (tag_cut scope label attrs))) t.inside ∙ t.label_is
 
 tag_attrs_are : (scope : Scope) (label : Label) (attrs : List Label) → IsTagCut scope label attrs → attr_labels (with_attrs (map pair_of (tag_cut scope label attrs)) scope) (map pair_of (tag_cut scope label attrs)) ≡ map (with_id 0) attrs
 tag_attrs_are scope label attrs t = ap (λ (s : Scope). attr_labels s (map pair_of (tag_cut scope label attrs))) t.inside ∙ t.attrs_are
@@ -162,7 +163,7 @@ whole_element end e1 e2 e3 = rw (e1, e2, e3) (simp append_assoc)
 whole_empty : {start begun more rest : List ℕ} → start ≡ begun → more ≡ rest → start ++ (47 ∷ 62 ∷ more) ≡ (begun ++ 47 ∷ 62 ∷ []) ++ rest
 whole_empty e1 e2 = rw (e1, e2) (simp append_assoc)
 
-pub cut_empty : (id : ℕ) (name : Name) (value : List ℕ) (scope : Scope) (attrs : List Label) (rest : Forest Label) (more : Content) → IsElement (label_of Elem id name value) attrs → IsCutOf scope rest more
+pub cut_empty : (id : ℕ) (name : Name) (value : List ℕ) (scope : Scope) (attrs : List Label) (rest : Forest Label) (more : Content) → IsElement scope (label_of Elem id name value) attrs → IsCutOf scope rest more
     → IsCutOf scope (tree (label_of Elem id name value) attrs none rest) (element_cut scope (label_of Elem id name value) attrs false done more)
 cut_empty id name value scope attrs rest more is h =
     let label : Label = label_of Elem id name value in
@@ -177,7 +178,7 @@ cut_empty id name value scope attrs rest more is h =
       first = λ k. tt;
     }
 
-pub cut_element : (id : ℕ) (name : Name) (value : List ℕ) (scope : Scope) (attrs : List Label) (kids rest : Forest Label) (inner more : Content) → has_trees kids ≡ true → IsElement (label_of Elem id name value) attrs
+pub cut_element : (id : ℕ) (name : Name) (value : List ℕ) (scope : Scope) (attrs : List Label) (kids rest : Forest Label) (inner more : Content) → has_trees kids ≡ true → IsElement scope (label_of Elem id name value) attrs
     → IsCutOf (inner_scope scope (label_of Elem id name value) attrs) kids inner → IsCutOf scope rest more
     → IsCutOf scope (tree (label_of Elem id name value) attrs kids rest) (element_cut scope (label_of Elem id name value) attrs true inner more)
 cut_element id name value scope attrs none rest inner more some is k h = absurd (false≢true some)

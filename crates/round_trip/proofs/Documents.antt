@@ -104,7 +104,7 @@ root_cut scope label attrs kids e = root_node label.kind label.id label.name lab
 
 -- ---- the children of a document
 
-pub record IsSplit (f : Forest Label) : Type 0 where
+pub record IsSplit (scope : Scope) (f : Forest Label) : Type 0 where
   pub first : Forest Label
   pub label : Label
   pub attrs : List Label
@@ -114,26 +114,27 @@ pub record IsSplit (f : Forest Label) : Type 0 where
   pub first_misc : AllTops is_misc first
   pub root_elem : is_elem label ≡ true
   pub last_misc : AllTops is_misc last
-  pub first_good : IsPrintable first
-  pub root_good : IsPrintable (tree label attrs kids none)
-  pub last_good : IsPrintable last
+  pub first_good : IsPrintable scope first
+  pub root_good : IsPrintable scope (tree label attrs kids none)
+  pub last_good : IsPrintable scope last
 
 all_joined : {A : Type 0} (test : A → Bool) (xs ys : List A) → list_all test xs ≡ true → list_all test ys ≡ true → list_all test (xs ++ ys) ≡ true
 all_joined test xs ys h k = list_all-append test xs ys ∙ and_from _ _ h k
 
-pub printable_none : IsPrintable none
-printable_none = record { sound = sound_none; read = refl }
+pub printable_none : (scope : Scope) → IsPrintable scope none
+printable_none scope = record { sound = sound_none; read = refl; none_added = tt }
 
 -- a node that is no text, before others
-printable_with : (label : Label) (attrs : List Label) (kids rest other : Forest Label) → AreNodeParts label attrs kids rest → is_no_text label ≡ true → list_all is_read_again attrs ≡ true → IsPrintable other → IsPrintable (tree label attrs kids other)
-printable_with label attrs kids rest other p t r h = record {
+printable_with : (scope : Scope) (label : Label) (attrs : List Label) (kids rest other : Forest Label) → AreNodeParts scope label attrs kids rest → is_no_text label ≡ true → IsPrintable scope other → IsPrintable scope (tree label attrs kids other)
+printable_with scope label attrs kids rest other p t h = record {
   sound = record {
     tops = (p.child, h.sound.tops);
     places = (p.owner, p.fit, p.inner.sound.places, h.sound.places);
     nodes = and_from _ _ p.good (all_joined is_good_label attrs (walk kids ++ walk other) p.attrs_good (all_joined is_good_label (walk kids) (walk other) p.inner.sound.nodes h.sound.nodes));
     texts = and_from _ _ (and_from _ _ (or_left (not (is_text label)) (begins_no_text other) t) p.inner.sound.texts) h.sound.texts;
   };
-  read = and_from _ _ p.read (all_joined is_read_again attrs (walk kids ++ walk other) r (all_joined is_read_again (walk kids) (walk other) p.inner.read h.read));
+  read = and_from _ _ p.read (all_joined is_read_again attrs (walk kids ++ walk other) p.attrs_read (all_joined is_read_again (walk kids) (walk other) p.inner.read h.read));
+  none_added = (p.none_added, p.inner.none_added, h.none_added);
 }
 
 all_misc : (f : Forest Label) → AllTops is_child f → AllTops is_no_text f → element_count f ≡ 0 → AllTops is_misc f
@@ -144,13 +145,13 @@ all_misc (tree label attrs kids rest) c t e = by (is_elem label) refl e (all_mis
     by true is k more = absurd (omega arith)
     by false is k more = (misc_label label c.0 t.0 is, more (omega arith))
 
-pub split_at_root : (f : Forest Label) → IsPrintable f → AllTops is_no_text f → element_count f ≡ 1 → IsSplit f
-split_at_root none h t e = absurd (omega arith)
-split_at_root (tree label attrs kids rest) h t e =
-    let p = node_parts label attrs kids rest h in
-    by (is_elem label) refl p e (split_at_root rest p.after t.1)
+pub split_at_root : (scope : Scope) (f : Forest Label) → IsPrintable scope f → AllTops is_no_text f → element_count f ≡ 1 → IsSplit scope f
+split_at_root scope none h t e = absurd (omega arith)
+split_at_root scope (tree label attrs kids rest) h t e =
+    let p = node_parts scope label attrs kids rest h in
+    by (is_elem label) refl p e (split_at_root scope rest p.after t.1)
   where
-    by : (elem : Bool) → is_elem label ≡ elem → AreNodeParts label attrs kids rest → cond elem 1 0 + element_count rest ≡ 1 → (element_count rest ≡ 1 → IsSplit rest) → IsSplit (tree label attrs kids rest)
+    by : (elem : Bool) → is_elem label ≡ elem → AreNodeParts scope label attrs kids rest → cond elem 1 0 + element_count rest ≡ 1 → (element_count rest ≡ 1 → IsSplit scope rest) → IsSplit scope (tree label attrs kids rest)
     by true is p k more = record {
       first = none;
       label = label;
@@ -161,8 +162,8 @@ split_at_root (tree label attrs kids rest) h t e =
       first_misc = tt;
       root_elem = is;
       last_misc = all_misc rest p.after.sound.tops t.1 (omega arith);
-      first_good = printable_none;
-      root_good = printable_with label attrs kids rest none p t.0 p.attrs_read printable_none;
+      first_good = printable_none scope;
+      root_good = printable_with scope label attrs kids rest none p t.0 (printable_none scope);
       last_good = p.after;
     }
     by false is p k more =
@@ -177,7 +178,7 @@ split_at_root (tree label attrs kids rest) h t e =
           first_misc = (misc_label label p.child t.0 is, s.first_misc);
           root_elem = s.root_elem;
           last_misc = s.last_misc;
-          first_good = printable_with label attrs kids rest s.first p t.0 p.attrs_read s.first_good;
+          first_good = printable_with scope label attrs kids rest s.first p t.0 s.first_good;
           root_good = s.root_good;
           last_good = s.last_good;
         }

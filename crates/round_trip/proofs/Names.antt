@@ -1,17 +1,18 @@
 -- Names as they are written: an NCName has no colon, so the colon of a written name parts its prefix from its local part.
-use Rattle.std.proofs.Common.{◌≡◌, inl, inr, ℕ, suc, ◌<◌, ◌≤◌, Bool, true, false, cond, not, ◌&&◌, ◌||◌, List, [], ◌∷◌, ◌++◌, length, get_or, drop, refl, sym, ap, ◌∙◌, subst, arith, append-nil}
+use Rattle.std.proofs.Common.{◌≡◌, inl, inr, ℕ, suc, ◌<◌, ◌≤◌, true, false, cond, not, ◌||◌, List, [], ◌∷◌, ◌++◌, length, get_or, drop, refl, sym, ap, ◌∙◌, subst, arith, append-nil}
 use Rattle.std.specs.Prelude.{codes}
 use Rattle.std.specs.List.{list_all}
 use Rattle.std.specs.Str.{bytes_eq, is_utf8, chars, encode_utf8_all}
 use Rattle.std.specs.Char.{encode_utf8}
-use Rattle.std.proofs.lemmas.Bool.{and_parts, and_from, or_from, or_right, cases_lt, not-true, false≢true}
+use Rattle.std.proofs.lemmas.Bool.{and_parts, and_from, or_from, or_right, cases_lt, not-true}
 use Rattle.std.proofs.lemmas.Bool.Decides.{nat_tests}
 use Rattle.std.proofs.lemmas.List.Folds.{list_all-append}
 use Rattle.std.proofs.lemmas.Str.{IsUtf8-from_is_utf8, is_utf8-from_IsUtf8, encode_ascii, encodes-chars, inside_one}
+use Rattle.tree_model.specs.Declarations.{declared_name}
 use Rattle.tree_model.specs.Sound.{is_empty, xml_uri, xmlns_uri, is_good_name}
 use Rattle.tree_model.specs.XmlChars.{is_name_start_char, is_inner_name_char, is_name_run, is_ncname_text, is_xml_ncname, is_no_colon, has_colon, before_colon, behind_colon, prefix_of, local_of, is_xml_qname}
-use Rattle.tree_model.specs.XmlMeaning.{is_bad_binding, is_declaration, declared_prefix}
-use Rattle.tree_model.specs.Printing.{declared_name, written_name}
+use Rattle.tree_model.specs.XmlMeaning.{is_declaration, declared_prefix}
+use Rattle.tree_model.specs.Printing.{written_name}
 use Rattle.tree_model.specs.declared.text.Name.{Name}
 use Rattle.tree_model.proofs.XmlUtf8.{utf8_ascii, chars_ascii}
 use Rattle.xml_pieces.proofs.Spans.{front, skip, front_all, skip_all}
@@ -121,34 +122,15 @@ pub record IsFit (name : Name) : Type 0 where
   pub local : is_xml_ncname name.local ≡ true
   pub prefix : (is_empty name.prefix || is_xml_ncname name.prefix) ≡ true
   pub no_xmlns : bytes_eq name.prefix (codes "xmlns") ≡ false
-  pub allowed : is_bad_binding name.prefix name.uri ≡ false
 
 pub good_parts : (name : Name) → is_good_name name ≡ true → IsFit name
-unfolding is_bad_binding
 good_parts name h =
     let all_but_last = and_parts _ (not (bytes_eq name.uri xmlns_uri)) h in
     let all_but_two = and_parts _ (not (bytes_eq name.prefix (codes "xmlns"))) all_but_last.0 in
     let all_but_three = and_parts _ (cond (bytes_eq name.prefix (codes "xml")) (bytes_eq name.uri xml_uri) (not (bytes_eq name.uri xml_uri))) all_but_two.0 in
     let all_but_four = and_parts _ (not (is_empty name.uri) || is_empty name.prefix) all_but_three.0 in
     let names = and_parts (is_xml_ncname name.local) (is_empty name.prefix || is_xml_ncname name.prefix) all_but_four.0 in
-    let xmlns : bytes_eq name.prefix (codes "xmlns") ≡ false = not-true _ all_but_two.1 in
-    record {
-      local = names.0;
-      prefix = names.1;
-      no_xmlns = xmlns;
-      allowed = or_from _ _ (or_from _ _ (or_from _ _ xmlns (not-true _ all_but_last.1)) (xml_case (bytes_eq name.prefix (codes "xml")) (bytes_eq name.uri xml_uri) all_but_three.1)) (empty_case (is_empty name.prefix) (is_empty name.uri) all_but_four.1);
-    }
-  where
-    empty_case : (no_prefix no_uri : Bool) → (not no_uri || no_prefix) ≡ true → (not no_prefix && no_uri) ≡ false
-    empty_case true no_uri k = refl
-    empty_case false true k = absurd (false≢true k)
-    empty_case false false k = refl
-
-    xml_case : (is_xml is_uri : Bool) → cond is_xml is_uri (not is_uri) ≡ true → cond is_xml (not is_uri) is_uri ≡ false
-    xml_case true true k = refl
-    xml_case true false k = absurd (false≢true k)
-    xml_case false true k = absurd (false≢true k)
-    xml_case false false k = refl
+    record { local = names.0; prefix = names.1; no_xmlns = not-true _ all_but_two.1 }
 
 pub written_parts : (name : Name) → is_good_name name ≡ true → IsParted name.prefix name.local (written_name name)
 unfolding written_name

@@ -6,8 +6,10 @@ use Rattle.std.proofs.lemmas.List.{length-map}
 use Rattle.std.proofs.lemmas.List.Folds.{list_all-append}
 use Rattle.tree_model.specs.Forest.{Forest, none, tree, walk, count, join}
 use Rattle.tree_model.specs.Labels.{Label, with_id, local_name, numbered_attrs, numbered}
-use Rattle.tree_model.specs.Sound.{is_empty, has_no_name, is_good_label, is_doc, is_elem, is_text, is_attr, fits, owns, are_distinct_names, have_one_uri, prefixed_names, AllTops, begins_no_text, are_texts_apart}
-use Rattle.tree_model.specs.PrintedReads.{is_read_again}
+use Rattle.tree_model.specs.Sound.{is_empty, has_no_name, is_good_label, is_doc, is_elem, is_text, is_attr, fits, owns, are_distinct_names, binds_well, AllTops, begins_no_text, are_texts_apart}
+use Rattle.tree_model.specs.XmlMeaning.{Scope}
+use Rattle.tree_model.specs.Printing.{added, scope_in}
+use Rattle.tree_model.specs.PrintedReads.{is_read_again, AddNone}
 use Rattle.tree_model.specs.declared.text.Name.{Name}
 use Rattle.tree_model.proofs.XmlSoundForests.{is_child, IsSoundForest}
 use Rattle.round_trip.proofs.Written.{nothing}
@@ -45,22 +47,25 @@ without_joined (tree label attrs kids rest) g = ap (λ (r : Forest Label). tree 
 
 -- ---- trees that are read again
 
-pub record IsPrintable (f : Forest Label) : Type 0 where
+-- where this is in scope about them
+pub record IsPrintable (scope : Scope) (f : Forest Label) : Type 0 where
   pub sound : IsSoundForest f
   pub read : list_all is_read_again (walk f) ≡ true
+  pub none_added : AddNone scope f
 
 -- the first tree, and what follows it
-pub record AreNodeParts (label : Label) (attrs : List Label) (kids rest : Forest Label) : Type 0 where
+pub record AreNodeParts (scope : Scope) (label : Label) (attrs : List Label) (kids rest : Forest Label) : Type 0 where
   pub child : is_child label ≡ true
   pub owner : owns label attrs ≡ true
   pub good : is_good_label label ≡ true
   pub attrs_good : list_all is_good_label attrs ≡ true
   pub read : is_read_again label ≡ true
   pub attrs_read : list_all is_read_again attrs ≡ true
+  pub none_added : is_elem label ≡ true → added scope label attrs ≡ []
   pub fit : AllTops (fits label) kids
   pub apart : (not (is_text label) || begins_no_text rest) ≡ true
-  pub inner : IsPrintable kids
-  pub after : IsPrintable rest
+  pub inner : IsPrintable (scope_in scope label attrs) kids
+  pub after : IsPrintable scope rest
 
 pub all_cut : {A : Type 0} (test : A → Bool) (xs ys : List A) → list_all test (xs ++ ys) ≡ true → (list_all test xs ≡ true) × (list_all test ys ≡ true)
 all_cut test xs ys h = and_parts (list_all test xs) (list_all test ys) (sym (list_all-append test xs ys) ∙ h)
@@ -70,8 +75,8 @@ pub tops_child : (parent : Label) (f : Forest Label) → AllTops (fits parent) f
 tops_child parent none h = tt
 tops_child parent (tree label attrs kids rest) h = ((and_parts (is_doc parent || is_elem parent) (is_child label) h.0).1, tops_child parent rest h.1)
 
-pub node_parts : (label : Label) (attrs : List Label) (kids rest : Forest Label) → IsPrintable (tree label attrs kids rest) → AreNodeParts label attrs kids rest
-node_parts label attrs kids rest h =
+pub node_parts : (scope : Scope) (label : Label) (attrs : List Label) (kids rest : Forest Label) → IsPrintable scope (tree label attrs kids rest) → AreNodeParts scope label attrs kids rest
+node_parts scope label attrs kids rest h =
     let goods = and_parts (is_good_label label) (list_all is_good_label (attrs ++ (walk kids ++ walk rest))) h.sound.nodes in
     let good_attrs = all_cut is_good_label attrs (walk kids ++ walk rest) goods.1 in
     let good_below = all_cut is_good_label (walk kids) (walk rest) good_attrs.1 in
@@ -87,10 +92,11 @@ node_parts label attrs kids rest h =
       attrs_good = good_attrs.0;
       read = reads.0;
       attrs_read = read_attrs.0;
+      none_added = h.none_added.0;
       fit = h.sound.places.1;
       apart = first_texts.0;
-      inner = record { sound = record { tops = tops_child label kids h.sound.places.1; places = h.sound.places.2; nodes = good_below.0; texts = first_texts.1 }; read = read_below.0 };
-      after = record { sound = record { tops = h.sound.tops.1; places = h.sound.places.3; nodes = good_below.1; texts = texts.1 }; read = read_below.1 };
+      inner = record { sound = record { tops = tops_child label kids h.sound.places.1; places = h.sound.places.2; nodes = good_below.0; texts = first_texts.1 }; read = read_below.0; none_added = h.none_added.1 };
+      after = record { sound = record { tops = h.sound.tops.1; places = h.sound.places.3; nodes = good_below.1; texts = texts.1 }; read = read_below.1; none_added = h.none_added.2 };
     }
 
 -- ---- nodes that aren't elements
@@ -98,7 +104,7 @@ node_parts label attrs kids rest h =
 pub no_attrs : (label : Label) (attrs : List Label) → owns label attrs ≡ true → is_elem label ≡ false → attrs ≡ []
 no_attrs label [] h e = refl
 no_attrs label (a ∷ attrs) h e =
-    let last = and_parts (is_elem label && list_all is_attr (a ∷ attrs) && are_distinct_names (map (λ (b : Label). b.name) (a ∷ attrs))) (have_one_uri (prefixed_names label (a ∷ attrs))) h in
+    let last = and_parts (is_elem label && list_all is_attr (a ∷ attrs) && are_distinct_names (map (λ (b : Label). b.name) (a ∷ attrs))) (binds_well label (a ∷ attrs)) h in
     let middle = and_parts (is_elem label && list_all is_attr (a ∷ attrs)) (are_distinct_names (map (λ (b : Label). b.name) (a ∷ attrs))) last.0 in
     absurd (true≢false (sym (and_parts (is_elem label) (list_all is_attr (a ∷ attrs)) middle.0).0 ∙ e))
 

@@ -10,7 +10,7 @@ use Rattle.tree_model.specs.XmlGood.{AreChars, IsSource}
 use Rattle.tree_model.specs.XmlMeaning.{first_scope, content_trees, misc_trees}
 use Rattle.tree_model.specs.XmlReads.{ReadsXml, as_tree, SpellsTree}
 use Rattle.tree_model.specs.Printing.{trees_text, documents_text}
-use Rattle.tree_model.specs.PrintedReads.{is_read_again, PrintedReads}
+use Rattle.tree_model.specs.PrintedReads.{is_read_again, AddNone, PrintedReads}
 use Rattle.tree_model.specs.declared.row.Kind.{Kind}
 use Rattle.tree_model.specs.declared.row.Kind.TheVariants.{Doc, Elem, Text, Attr, Comm, Pi}
 use Rattle.tree_model.specs.declared.text.Name.{Name}
@@ -27,10 +27,10 @@ use Rattle.round_trip.proofs.Heads.{spelled_no_subset, undeclared_no_encoding}
 
 -- ---- the source that the children of a document are cut into
 
-abbrev root_of : {f : Forest Label} → IsSplit f → Forest Label
+abbrev root_of : {f : Forest Label} → IsSplit first_scope f → Forest Label
 root_of s = tree s.label s.attrs s.kids none
 
-abbrev source_of : {f : Forest Label} → IsSplit f → Source
+abbrev source_of : {f : Forest Label} → IsSplit first_scope f → Source
 source_of s = record {
   mark = false;
   decl = None;
@@ -42,12 +42,12 @@ source_of s = record {
 }
 
 -- what is printed before, in and behind the root
-three_texts : (f : Forest Label) (s : IsSplit f) → trees_text first_scope f ≡ trees_text first_scope s.first ++ (trees_text first_scope (root_of s) ++ trees_text first_scope s.last)
+three_texts : (f : Forest Label) (s : IsSplit first_scope f) → trees_text first_scope f ≡ trees_text first_scope s.first ++ (trees_text first_scope (root_of s) ++ trees_text first_scope s.last)
 three_texts f s =
     ap (trees_text first_scope) s.is ∙ text_joined first_scope s.first (tree s.label s.attrs s.kids s.last)
     ∙ ap (λ (l : List ℕ). trees_text first_scope s.first ++ l) (text_joined first_scope (root_of s) s.last)
 
-source_spells : (f : Forest Label) (s : IsSplit f) → trees_text first_scope f ≡ source_text (source_of s)
+source_spells : (f : Forest Label) (s : IsSplit first_scope f) → trees_text first_scope f ≡ source_text (source_of s)
 source_spells f s =
     let first = forest_cut first_scope s.first s.first_good in
     let root = forest_cut first_scope (root_of s) s.root_good in
@@ -61,7 +61,7 @@ join_none none = refl
 join_none (tree label attrs kids rest) = ap (λ (r : Forest Label). tree label attrs kids r) (join_none rest)
 
 -- the trees below the document
-source_stands : (f : Forest Label) (s : IsSplit f)
+source_stands : (f : Forest Label) (s : IsSplit first_scope f)
     → misc_trees (content_cut first_scope s.first) (join (content_trees false first_scope [] (content_cut first_scope (root_of s))) (misc_trees (content_cut first_scope s.last) none)) ≡ without_ids f
 source_stands f s =
     let first = forest_cut first_scope s.first s.first_good in
@@ -74,7 +74,7 @@ source_stands f s =
     ∙ sym (without_joined s.first (tree s.label s.attrs s.kids s.last))
     ∙ ap without_ids (sym s.is)
 
-is_source : (f : Forest Label) (s : IsSplit f) → AreChars (source_text (source_of s)) → IsSource (source_of s)
+is_source : (f : Forest Label) (s : IsSplit first_scope f) → AreChars (source_text (source_of s)) → IsSource (source_of s)
 is_source f s chars = record {
   decl = tt;
   first_misc = bare_misc (content_cut first_scope s.first) (bare_cut first_scope s.first s.first_misc);
@@ -97,8 +97,8 @@ document id name value attrs kids = tree (label_of Doc id name value) attrs kids
 document_text : (id : ℕ) (name : Name) (value : List ℕ) (attrs : List Label) (kids : Forest Label) → documents_text (document id name value attrs kids) ≡ trees_text first_scope kids
 document_text id name value attrs kids = append-nil (trees_text first_scope kids)
 
-document_children : (id : ℕ) (name : Name) (value : List ℕ) (attrs : List Label) (kids : Forest Label) (next : ℕ) → IsSound (document id name value attrs kids) next → list_all is_read_again (walk kids) ≡ true → IsPrintable kids
-document_children id name value attrs kids next sound read =
+document_children : (id : ℕ) (name : Name) (value : List ℕ) (attrs : List Label) (kids : Forest Label) (next : ℕ) → IsSound (document id name value attrs kids) next → list_all is_read_again (walk kids) ≡ true → AddNone first_scope kids → IsPrintable first_scope kids
+document_children id name value attrs kids next sound read none_added =
     let label : Label = label_of Doc id name value in
     let nodes = and_parts (is_good_label label) (list_all is_good_label (attrs ++ (walk kids ++ []))) sound.rules.nodes in
     let below = all_cut is_good_label (walk kids) [] (all_cut is_good_label attrs (walk kids ++ []) nodes.1).1 in
@@ -106,6 +106,7 @@ document_children id name value attrs kids next sound read =
     record {
       sound = record { tops = tops_child label kids sound.rules.places.1; places = sound.rules.places.2; nodes = below.0; texts = texts.0 };
       read = read;
+      none_added = none_added;
     }
 
 -- its label and its attributes, without a path
@@ -114,12 +115,12 @@ document_is id name value attrs kids unnamed_so no_attributes =
     ap (λ (a : List Label). without_ids (document 0 (local_name []) [] a kids)) (sym no_attributes)
     ∙ ap (λ (n : Name). without_ids (document 0 n [] attrs kids)) (sym (unnamed name unnamed_so))
 
-document_spelled : (id : ℕ) (name : Name) (value : List ℕ) (attrs : List Label) (kids : Forest Label) (next : ℕ) → IsSound (document id name value attrs kids) next → IsSplit kids
+document_spelled : (id : ℕ) (name : Name) (value : List ℕ) (attrs : List Label) (kids : Forest Label) (next : ℕ) → IsSound (document id name value attrs kids) next → IsSplit first_scope kids
     → SpellsTree false (documents_text (document id name value attrs kids)) (numbered 0 (with_path [] (document id name value attrs kids)))
 document_spelled id name value attrs kids next sound s =
     let f : Forest Label = document id name value attrs kids in
     let is : documents_text f ≡ source_text (source_of s) = document_text id name value attrs kids ∙ source_spells kids s in
-    let printed : IsTextOfChars (documents_text f) = printed_chars first_scope f sound.rules.nodes in
+    let printed : IsTextOfChars (documents_text f) = printed_chars first_scope f sound.rules.places sound.rules.nodes in
     let node = and_parts (is_good_label (label_of Doc id name value)) (list_all is_good_label (attrs ++ (walk kids ++ []))) sound.rules.nodes in
     let same = document_is id name value attrs kids (good_node (label_of Doc id name value) Doc refl node.0) (no_attrs (label_of Doc id name value) attrs sound.rules.places.0 refl) in
     record {
@@ -129,12 +130,12 @@ document_spelled id name value attrs kids next sound s =
       tree_is = sym (numbered_without 0 (with_path [] f)) ∙ ap (numbered 0) (sym same) ∙ ap (λ (g : Forest Label). numbered 0 (tree (doc_label []) [] g none)) (sym (source_stands kids s));
     }
 
-document_read : (id : ℕ) (name : Name) (value : List ℕ) (attrs : List Label) (kids : Forest Label) (next : ℕ) → IsSound (document id name value attrs kids) next → IsSplit kids → length (documents_text (document id name value attrs kids)) ≤ 2 ^ 26
+document_read : (id : ℕ) (name : Name) (value : List ℕ) (attrs : List Label) (kids : Forest Label) (next : ℕ) → IsSound (document id name value attrs kids) next → IsSplit first_scope kids → length (documents_text (document id name value attrs kids)) ≤ 2 ^ 26
     → ReadsXml (documents_text (document id name value attrs kids)) false (as_tree (numbered 0 (with_path [] (document id name value attrs kids))))
 unfolding document_spelled
 document_read id name value attrs kids next sound s short =
     let f : Forest Label = document id name value attrs kids in
-    let printed : IsTextOfChars (documents_text f) = printed_chars first_scope f sound.rules.nodes in
+    let printed : IsTextOfChars (documents_text f) = printed_chars first_scope f sound.rules.places sound.rules.nodes in
     let spelled = document_spelled id name value attrs kids next sound s in (
       (short, printed.utf8),
       undeclared_no_encoding (documents_text f) spelled.source spelled.spelled refl,
@@ -159,6 +160,6 @@ printed_reads f next sound one short =
     let roots : AllTops is_doc (tree one.label one.attrs one.kids none) = subst (AllTops is_doc) one.is sound.rules.roots in
     let is : f ≡ document one.label.id one.label.name one.label.value one.attrs one.kids = one.is ∙ ap (λ (k : Kind). tree (label_of k one.label.id one.label.name one.label.value) one.attrs one.kids none) (doc_kind one.label roots.0) in
     let sound_so : IsSound (document one.label.id one.label.name one.label.value one.attrs one.kids) next = subst (λ (g : Forest Label). IsSound g next) is sound in
-    let printable = document_children one.label.id one.label.name one.label.value one.attrs one.kids next sound_so one.read_again in
+    let printable = document_children one.label.id one.label.name one.label.value one.attrs one.kids next sound_so one.read_again one.none_added in
     subst (λ (g : Forest Label). length (documents_text g) ≤ 2 ^ 26 → ReadsXml (documents_text g) false (as_tree (numbered 0 (with_path [] g)))) (sym is)
-    (document_read one.label.id one.label.name one.label.value one.attrs one.kids next sound_so (split_at_root one.kids printable one.no_text one.one_element)) short
+    (document_read one.label.id one.label.name one.label.value one.attrs one.kids next sound_so (split_at_root first_scope one.kids printable one.no_text one.one_element)) short

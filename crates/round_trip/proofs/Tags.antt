@@ -7,12 +7,13 @@ use Rattle.std.specs.Str.{bytes_eq}
 use Rattle.std.proofs.lemmas.Bool.{and_parts, and_from, or_parts, or_from, and_right, and_left, true≢false, not-true, not_from_false, false_from_ne_true, cond-true, cond-false}
 use Rattle.std.proofs.lemmas.List.Folds.{list_any-append}
 use Rattle.std.proofs.lemmas.Slice.Eq.{bytes_eq-Decides}
+use Rattle.tree_model.specs.Declarations.{declared_name}
 use Rattle.tree_model.specs.Labels.{Label, with_id}
 use Rattle.tree_model.specs.Sound.{is_same_name, are_distinct_names}
 use Rattle.tree_model.specs.XmlSource.{attr_head, attr_source, Attr as TagAttr, parts_text}
 use Rattle.tree_model.specs.XmlGood.{EachIsAttr, is_in, are_new, names_of}
-use Rattle.tree_model.specs.XmlMeaning.{Pair, pair_of, Scope, is_declaration, with_attrs, is_bad_binding, attr_uri, or_empty, plain_attrs, attr_name, expanded, is_same_pair, has_twice, has_bad_binding, attr_label, attrs_faults}
-use Rattle.tree_model.specs.Printing.{value_text, behind, declared_name, declaration_text, written_name, attr_text}
+use Rattle.tree_model.specs.XmlMeaning.{Pair, pair_of, Scope, is_declaration, with_attrs, is_bad_binding, attr_uri, or_empty, plain_attrs, attr_name, expanded, is_same_pair, has_twice, has_bad_binding, kept_declarations, attr_label, attrs_faults}
+use Rattle.tree_model.specs.Printing.{value_text, behind, declaration_text, written_name, attr_text}
 use Rattle.tree_model.specs.declared.row.Kind.TheVariants.{Attr}
 use Rattle.tree_model.specs.declared.text.Name.{Name}
 use Rattle.round_trip.specs.Cut.{value_reference, value_parts, attr_cut, binding_cut, label_cut}
@@ -72,6 +73,19 @@ pub plain_is : (inside : Scope) (bindings : List Pair) (attrs : List Label) → 
 unfolding plain_attrs
 plain_is inside [] attrs d are = plain_written inside attrs are
 plain_is inside (b ∷ bindings) attrs d are = cond-true _ _ _ d.0.parts.declares ∙ plain_is inside bindings attrs d.1 are
+
+attrs_not_kept : (inside : Scope) (attrs : List Label) → AreAttributes inside attrs → kept_declarations (written attrs) ≡ []
+unfolding kept_declarations
+attrs_not_kept inside [] are = refl
+attrs_not_kept inside (a ∷ attrs) are = cond-false _ _ _ (and_left _ _ are.0.written.no_declaration) ∙ attrs_not_kept inside attrs are.1
+
+-- all declarations are kept
+pub kept_is : (inside : Scope) (bindings : List Pair) (attrs : List Label) → AreDeclaring bindings → AreAttributes inside attrs → kept_declarations (declaring bindings ++ written attrs) ≡ bindings
+unfolding kept_declarations
+kept_is inside [] attrs d are = attrs_not_kept inside attrs are
+kept_is inside (b ∷ bindings) attrs d are =
+    cond-true _ _ _ (and_from _ _ d.0.parts.declares (not_from_false _ (ap (λ (p : List ℕ). bytes_eq p (codes "xml")) d.0.parts.prefix_is ∙ d.0.no_xml)))
+    ∙ ap₂ (λ (p : List ℕ) (l : List Pair). pair p b.1 ∷ l) d.0.parts.prefix_is (kept_is inside bindings attrs d.1 are)
 
 -- ---- rules of namespaces
 

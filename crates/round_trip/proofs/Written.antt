@@ -5,8 +5,9 @@ use Rattle.std.specs.List.{list_all, list_any}
 use Rattle.std.specs.Str.{bytes_eq}
 use Rattle.std.proofs.lemmas.Bool.{and_parts, and_from, or_parts, or_from, true≢false, false≢true, not-true, false_from_ne_true, cond-true, cond-false}
 use Rattle.std.proofs.lemmas.Slice.Eq.{bytes_eq-Decides}
+use Rattle.tree_model.specs.Declarations.{declarations_of}
 use Rattle.tree_model.specs.Labels.{Label}
-use Rattle.tree_model.specs.Sound.{is_empty, is_good_name, is_same_name, are_distinct_names, is_attr_name, is_good_node, is_good_label, is_elem, is_attr, are_chars, prefixed_names, have_one_uri, owns}
+use Rattle.tree_model.specs.Sound.{is_empty, is_good_name, is_same_name, are_distinct_names, is_attr_name, is_good_node, is_good_label, is_elem, is_attr, are_chars, has_chars, bindings_of, are_distinct, have_one_uri, binds_well, owns}
 use Rattle.tree_model.specs.XmlChars.{has_colon, before_colon, behind_colon, local_of}
 use Rattle.tree_model.specs.XmlGood.{is_in}
 use Rattle.tree_model.specs.XmlMeaning.{Scope, uri_of, is_declaration, attr_uri, element_uri}
@@ -15,7 +16,7 @@ use Rattle.tree_model.specs.declared.row.Kind.{Kind}
 use Rattle.tree_model.specs.declared.row.Kind.TheVariants.{Doc, Elem, Text, Attr, Comm, Pi}
 use Rattle.tree_model.specs.declared.text.Name.{Name}
 use Rattle.round_trip.proofs.Names.{IsParted, good_parts, written_parts}
-use Rattle.round_trip.proofs.Scopes.{bytes_are, Binds, BindsEach, AreApart}
+use Rattle.round_trip.proofs.Scopes.{bytes_are, Binds, BindsEach, AreApart, prefixes}
 
 -- ---- names
 
@@ -87,7 +88,7 @@ attr_kind label h = by label.kind h
 -- the name and the value of a good node
 pub good_node : (label : Label) (kind : Kind) → label.kind ≡ kind → is_good_label label ≡ true → is_good_node kind label.name label.value ≡ true
 good_node label kind e h =
-    let p = and_parts (is_good_node label.kind label.name label.value && are_chars label.name.uri) (are_chars label.value) h in
+    let p = and_parts (is_good_node label.kind label.name label.value && are_chars label.name.uri) (has_chars label.kind label.value) h in
     sym (ap (λ (k : Kind). is_good_node k label.name label.value) e) ∙ (and_parts (is_good_node label.kind label.name label.value) (are_chars label.name.uri) p.0).0
 
 pub record IsAttribute (inside : Scope) (label : Label) : Type 0 where
@@ -116,19 +117,6 @@ are_attributes inside (x ∷ attrs) a g b =
     by : (none_there : Bool) → BindsEach inside (cond (not none_there) (x.name ∷ prefixed attrs) (prefixed attrs)) → (none_there ≡ false → Binds inside x.name) × BindsEach inside (prefixed attrs)
     by true h = ((λ e. absurd (true≢false e)), h)
     by false h = ((λ e. h.0), h.1)
-
--- each name that binds a prefix is good
-pub prefixed_good : (attrs : List Label) → list_all is_attr attrs ≡ true → list_all is_good_label attrs ≡ true → list_all is_good_name (prefixed attrs) ≡ true
-prefixed_good [] a g = refl
-prefixed_good (x ∷ attrs) a g =
-    let p = and_parts (is_attr x) (list_all is_attr attrs) a in
-    let q = and_parts (is_good_label x) (list_all is_good_label attrs) g in
-    let named = and_parts (is_good_name x.name) _ (good_node x Attr (attr_kind x p.0) q.0) in
-    by (is_empty x.name.prefix) named.0 (prefixed_good attrs p.1 q.1)
-  where
-    by : (none_there : Bool) → is_good_name x.name ≡ true → list_all is_good_name (prefixed attrs) ≡ true → list_all is_good_name (cond (not none_there) (x.name ∷ prefixed attrs) (prefixed attrs)) ≡ true
-    by true h more = more
-    by false h more = and_from _ _ h more
 
 -- ---- written names differ
 
@@ -164,11 +152,26 @@ written_apart inside (a ∷ attrs) are h =
 pub record AreOwned (label : Label) (attrs : List Label) : Type 0 where
   pub attributes : list_all is_attr attrs ≡ true
   pub distinct : are_distinct_names (names attrs) ≡ true
-  pub one_uri : have_one_uri (prefixed_names label attrs) ≡ true
+  pub declared : are_distinct (prefixes (declarations_of label.value)) ≡ true
 
-pub owned : (label : Label) (attrs : List Label) → owns label attrs ≡ true → AreOwned label attrs
-owned label [] h = record { attributes = refl; distinct = refl; one_uri = refl }
-owned label (a ∷ attrs) h =
-    let last = and_parts (is_elem label && list_all is_attr (a ∷ attrs) && are_distinct_names (names (a ∷ attrs))) (have_one_uri (prefixed_names label (a ∷ attrs))) h in
+declared_distinct : (label : Label) (attrs : List Label) → binds_well label attrs ≡ true → are_distinct (prefixes (declarations_of label.value)) ≡ true
+unfolding binds_well
+declared_distinct label attrs h = (and_parts (are_distinct (prefixes (declarations_of label.value))) (have_one_uri (bindings_of label attrs)) h).0
+
+-- what a node bears is attributes
+pub borne : (label : Label) (attrs : List Label) → owns label attrs ≡ true → list_all is_attr attrs ≡ true
+borne label [] h = refl
+borne label (a ∷ attrs) h =
+    let last = and_parts (is_elem label && list_all is_attr (a ∷ attrs) && are_distinct_names (names (a ∷ attrs))) (binds_well label (a ∷ attrs)) h in
     let middle = and_parts (is_elem label && list_all is_attr (a ∷ attrs)) (are_distinct_names (names (a ∷ attrs))) last.0 in
-    record { attributes = (and_parts (is_elem label) (list_all is_attr (a ∷ attrs)) middle.0).1; distinct = middle.1; one_uri = last.1 }
+    (and_parts (is_elem label) (list_all is_attr (a ∷ attrs)) middle.0).1
+
+pub owned : (label : Label) (attrs : List Label) → is_elem label ≡ true → owns label attrs ≡ true → AreOwned label attrs
+owned label [] e h = record { attributes = refl; distinct = refl; declared = declared_distinct label [] (ap (λ t. not t || binds_well label []) (sym e) ∙ h) }
+owned label (a ∷ attrs) e h =
+    let last = and_parts (is_elem label && list_all is_attr (a ∷ attrs) && are_distinct_names (names (a ∷ attrs))) (binds_well label (a ∷ attrs)) h in
+    record {
+      attributes = borne label (a ∷ attrs) h;
+      distinct = (and_parts (is_elem label && list_all is_attr (a ∷ attrs)) (are_distinct_names (names (a ∷ attrs))) last.0).1;
+      declared = declared_distinct label (a ∷ attrs) last.1;
+    }

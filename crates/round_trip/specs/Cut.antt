@@ -1,10 +1,11 @@
 -- What a printed document is cut into.
 use Rattle.std.specs.Prelude.{ℕ, Bool, true, false, ◌==◌, List, [], ◌∷◌, ◌++◌, map, codes, Option, Some, None, if◌then◌else◌}
+use Rattle.tree_model.specs.Declarations.{declared_name}
 use Rattle.tree_model.specs.Forest.{Forest, none, tree}
 use Rattle.tree_model.specs.Labels.{Label}
 use Rattle.tree_model.specs.XmlSource.{Part, run, entity, decimal, Attr, Content, done, element, empty, part, comm, pi}
 use Rattle.tree_model.specs.XmlMeaning.{Pair, Scope}
-use Rattle.tree_model.specs.Printing.{declarations, scope_in, declared_name, written_name, has_trees}
+use Rattle.tree_model.specs.Printing.{declarations, scope_in, written_name, has_trees}
 use Rattle.tree_model.specs.declared.row.Kind.{Kind}
 use Rattle.tree_model.specs.declared.row.Kind.TheVariants.{Doc, Elem, Text, Attr as AttrKind, Comm, Pi}
 

@@ -7,9 +7,10 @@ ghost use Rattle.tree_model.specs.Labels.{Label};
 ghost use Rattle.tree_model.specs.PrintedReads.{PrintedReads};
 ghost use Rattle.tree_model.specs.XmlReads.{SpellsTree};
 
-/// The text of a sound document with one element and no text among its children, whose comments and instructions have no CR
-/// and whose instructions have no white space before their values, spells that document: without its path, and with ids from
-/// 0 in document order.
+/// The text of a sound document with one element and no text among its children, whose comments and instructions have no CR,
+/// whose instructions have no white space before their values, and to whose elements printing adds no namespace declaration,
+/// spells that document: without its path, with the declarations that its elements keep, and with ids from 0 in document
+/// order.
 pub fn printed_documents_are_read_again()
     ensures { PrintedReads }
 {}

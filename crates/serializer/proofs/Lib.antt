@@ -1,5 +1,10 @@
 pub mod Declaring
 pub mod Escaping
+pub mod FirstScope
 pub mod Growing
+pub mod Lookups
+pub mod Parts
 pub mod Ranges
+pub mod Reading
+pub mod Scoping
 pub mod Walk

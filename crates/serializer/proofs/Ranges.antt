@@ -1,15 +1,16 @@
 -- The text of a range of rows, row by row.
-use Rattle.std.proofs.Common.{◌≡◌, ◌≢◌, ◌⊎◌, inl, inr, ℕ, zero, suc, ◌+◌, ◌-◌, ◌<◌, ◌≤◌, min, List, [], ◌∷◌, ◌++◌, length, get_or, take, drop, drop-cons, add-one, append_assoc, append-nil, length-drop, refl, ap, sym, ◌∙◌, arith}
+use Rattle.std.proofs.Common.{◌≡◌, ◌≢◌, ◌⊎◌, inl, inr, ℕ, zero, suc, ◌+◌, ◌-◌, ◌<◌, ◌≤◌, min, List, [], ◌∷◌, ◌++◌, length, get_or, take, drop, add-one, append_assoc, append-nil, length-drop, refl, ap, sym, ◌∙◌, arith}
+use Rattle.std.specs.Prelude.{slice_range}
 use Rattle.std.specs.List.{join_with_byte}
-use Rattle.std.proofs.lemmas.List.{drop_all, drop-map, take-map, take_min, length-map}
+use Rattle.std.proofs.lemmas.List.{drop-map, take-map, take_min, length-map}
 use Rattle.std.proofs.lemmas.Bool.{cases_lt}
 use Rattle.tree_model.specs.Forest.{Line, grove_of, IsFlat}
 use Rattle.tree_model.specs.Labels.{Label}
-use Rattle.tree_model.specs.Rows.{line_of, lines_of, ArePlaced}
+use Rattle.tree_model.specs.Rows.{line_of, lines_of}
 use Rattle.tree_model.specs.Printed.{row_text, row_texts, range_text}
 use Rattle.tree_model.specs.declared.row.Row.{Row}
 use Rattle.tree_model.specs.declared.text.Name.{Name}
-use Rattle.tree_model.proofs.Tables.{placed_behind, placed_before}
+use Rattle.serializer.proofs.Parts.{range_first, no_range}
 
 -- the lines from a place on, each behind an LF
 abbrev pub more_text : ℕ → List (Line Label) → List ℕ
@@ -30,13 +31,11 @@ abbrev pub gap : ℕ → List ℕ
 gap zero = []
 gap (suc n) = 10 ∷ []
 
-pub spaced_first : (first n pre : ℕ) (out spaced : List ℕ) → pre ≡ first + n → pre ≡ first → spaced ≡ out → spaced ≡ out ++ gap n
-spaced_first first zero pre out spaced e at same = same ∙ sym (append-nil out)
-spaced_first first (suc n) pre out spaced e at same = absurd (omega arith)
+pub spaced_first : (first pre : ℕ) (out spaced : List ℕ) → pre ≡ first → spaced ≡ out → spaced ≡ out ++ gap (pre - first)
+spaced_first first pre out spaced at same = let none : pre - first ≡ 0 = omega arith in same ∙ sym (append-nil out) ∙ ap (λ n. out ++ gap n) (sym none)
 
-pub spaced_behind : (first n pre : ℕ) (out spaced : List ℕ) → pre ≡ first + n → pre ≢ first → spaced ≡ out ++ 10 ∷ [] → spaced ≡ out ++ gap n
-spaced_behind first zero pre out spaced e apart more = absurd (omega arith)
-spaced_behind first (suc n) pre out spaced e apart more = more
+pub spaced_behind : (first pre : ℕ) (out spaced : List ℕ) → first ≤ pre → pre ≢ first → spaced ≡ out ++ 10 ∷ [] → spaced ≡ out ++ gap (pre - first)
+spaced_behind first pre out spaced le apart more = let some : pre - first ≡ suc (pre - first - 1) = omega arith in more ∙ ap (λ n. out ++ gap n) (sym some)
 
 ahead_of : (n pre : ℕ) (line : Line Label) (lines : List (Line Label)) → text_ahead n pre (line ∷ lines) ≡ gap n ++ (row_text pre line ++ more_text (suc pre) lines)
 ahead_of zero pre line lines = joined pre line lines
@@ -44,34 +43,25 @@ ahead_of (suc n) pre line lines = refl
 
 -- a line more is printed
 one_more : (n pre : ℕ) (line : Line Label) (lines : List (Line Label)) (out spaced new all : List ℕ) → spaced ≡ out ++ gap n → new ≡ spaced ++ row_text pre line
-    → out ++ text_ahead n pre (line ∷ lines) ≡ all → new ++ more_text (suc pre) lines ≡ all
+    → out ++ text_ahead n pre (line ∷ lines) ≡ all → new ++ more_text (pre + 1) lines ≡ all
 one_more n pre line lines out spaced new all e f text =
-    let whole : new ≡ (out ++ gap n) ++ row_text pre line = f ∙ ap (λ l. l ++ row_text pre line) e in
+    rw add-one (let whole : new ≡ (out ++ gap n) ++ row_text pre line = f ∙ ap (λ l. l ++ row_text pre line) e in
     ap (λ l. l ++ more_text (suc pre) lines) whole
     ∙ append_assoc (out ++ gap n) (row_text pre line) (more_text (suc pre) lines)
     ∙ append_assoc out (gap n) (row_text pre line ++ more_text (suc pre) lines)
     ∙ ap (λ l. out ++ l) (sym (ahead_of n pre line lines))
-    ∙ text
+    ∙ text)
 
-pub row_more : (names : List Name) (values : List ℕ) (rows : List Row) (row : Row) (i pre : ℕ) (out spaced new all : List ℕ) → i < length rows
-    → spaced ≡ out ++ gap i → new ≡ spaced ++ row_text pre (line_of names values (get_or rows i row)) → out ++ text_ahead i pre (lines_of names values (drop i rows)) ≡ all
-    → new ++ text_ahead (i + 1) (pre + 1) (lines_of names values (drop (i + 1) rows)) ≡ all
-row_more names values rows row i pre out spaced new all lt e f text =
-    let split : out ++ text_ahead i pre (lines_of names values (get_or rows i row ∷ drop (suc i) rows)) ≡ all
-    = ap (λ l. out ++ text_ahead i pre (lines_of names values l)) (sym (drop-cons rows i row lt)) ∙ text in
-    rw (add-one i, add-one pre) (one_more i pre (line_of names values (get_or rows i row)) (lines_of names values (drop (suc i) rows)) out spaced new all e f split)
-
-placed_next : (names : List Name) (values : List ℕ) (rows : List Row) (i : ℕ) → ArePlaced names values (drop i rows) → ArePlaced names values (drop (suc i) rows)
-placed_next names values [] zero placed = placed
-placed_next names values (row ∷ rows) zero placed = placed.2
-placed_next names values [] (suc i) placed = placed
-placed_next names values (row ∷ rows) (suc i) placed = placed_next names values rows i placed
-
-pub placed_more : (names : List Name) (values : List ℕ) (rows : List Row) (i : ℕ) → ArePlaced names values (drop i rows) → ArePlaced names values (drop (i + 1) rows)
-placed_more names values rows i placed = rw add-one (placed_next names values rows i placed)
-
-pub placed_within : (names : List Name) (values : List ℕ) (rows : List Row) (n m : ℕ) → ArePlaced names values rows → ArePlaced names values (take n (drop m rows))
-placed_within names values rows n m placed = placed_before names values (drop m rows) n (placed_behind names values rows m placed)
+pub row_more : (names : List Name) (values : List ℕ) (rows : List Row) (row : Row) (first pre end : ℕ) (out spaced new all : List ℕ) → first ≤ pre → pre < end → end ≤ length rows
+    → row ≡ get_or rows pre row → spaced ≡ out ++ gap (pre - first) → new ≡ spaced ++ row_text pre (line_of names values row)
+    → out ++ text_ahead (pre - first) pre (lines_of names values (slice_range rows pre end)) ≡ all → new ++ text_ahead (pre + 1 - first) (pre + 1) (lines_of names values (slice_range rows (pre + 1) end)) ≡ all
+row_more names values rows row first pre end out spaced new all from lt le is e f text =
+    let i : ℕ = pre - first in
+    let next : pre + 1 - first ≡ suc i = omega arith in
+    let split : out ++ text_ahead i pre (lines_of names values (row ∷ slice_range rows (pre + 1) end)) ≡ all
+    = ap (λ l. out ++ text_ahead i pre (lines_of names values l)) (sym (range_first rows pre end row lt le ∙ ap (λ (r : Row). r ∷ slice_range rows (pre + 1) end) (sym is))) ∙ text in
+    ap (λ n. new ++ text_ahead n (pre + 1) (lines_of names values (slice_range rows (pre + 1) end))) next
+    ∙ one_more i pre (line_of names values row) (lines_of names values (slice_range rows (pre + 1) end)) out spaced new all e f split
 
 nothing_ahead : (n pre : ℕ) → text_ahead n pre [] ≡ []
 nothing_ahead zero pre = refl
@@ -106,13 +96,12 @@ same_rows lines from to start end e f = same_by (cases_lt from end)
 
 -- all rows of the range are printed
 pub range_printed : (names : List Name) (values : List ℕ) (rows : List Row) (out before : List ℕ) (i pre from to start end : ℕ)
-    → IsFlat (lines_of names values rows) → end ≡ min (length rows) to → start ≡ min end from → length (take (end - start) (drop start rows)) ≤ i
-    → out ++ text_ahead i pre (lines_of names values (drop i (take (end - start) (drop start rows)))) ≡ before ++ join_with_byte 10 (row_texts start (lines_of names values (take (end - start) (drop start rows))))
+    → IsFlat (lines_of names values rows) → end ≡ min (length rows) to → start ≡ min end from → end ≤ pre
+    → out ++ text_ahead i pre (lines_of names values (slice_range rows pre end)) ≡ before ++ join_with_byte 10 (row_texts start (lines_of names values (slice_range rows start end)))
     → out ≡ before ++ range_text from to (grove_of (lines_of names values rows))
 range_printed names values rows out before i pre from to start end flat e f past text =
-    let part : List Row = take (end - start) (drop start rows) in
-    let none_ahead : out ++ text_ahead i pre (lines_of names values (drop i part)) ≡ out
-    = ap (λ l. out ++ text_ahead i pre (lines_of names values l)) (drop_all i part past) ∙ ap (λ l. out ++ l) (nothing_ahead i pre) ∙ append-nil out in
+    let none_ahead : out ++ text_ahead i pre (lines_of names values (slice_range rows pre end)) ≡ out
+    = ap (λ l. out ++ text_ahead i pre (lines_of names values l)) (no_range rows pre end past) ∙ ap (λ l. out ++ l) (nothing_ahead i pre) ∙ append-nil out in
     sym none_ahead ∙ text ∙ ap (λ l. before ++ join_with_byte 10 l)
     (ap (row_texts start) (lines_within names values rows (end - start) start)
     ∙ same_rows (lines_of names values rows) from to start end (e ∙ ap (λ n. min n to) (sym (length-map rows (line_of names values)))) f

@@ -12,15 +12,15 @@ use Rattle.tree_model.specs.declared.row.Kind.TheVariants.{Doc, Elem, Text, Attr
 use Rattle.tree_model.specs.Rows.{label_of, line_of, lines_of}
 use Rattle.tree_model.specs.declared.row.Row.{Row}
 use Rattle.tree_model.specs.declared.text.Name.{Name}
-use Rattle.std.proofs.lemmas.List.{drop-drop, drop-map, take-map, length-map}
+use Rattle.std.proofs.lemmas.List.{drop-drop, drop-map, take-map, length-map, get_or_read}
 use Rattle.std.proofs.lemmas.Simd.{map-map}
 use Rattle.std.proofs.lemmas.Bool.{lt-ltb, le-ltb, cases_lt}
 use Rattle.tree_model.proofs.Standing.{IsIn, in_contains, place_of, node_places, stands, own_line}
 use Rattle.tree_model.specs.XmlMeaning.{Pair, Scope, first_scope}
+use Rattle.node_table.specs.Laid.{no_row, dist_at}
 use Rattle.serializer.specs.Opened.{shows_children, opens, front_text, back_text, declared, Opened, lines_left, scope_inside, text_left, AreOpen, AreInForce, Ahead, Ended, Then}
-use Rattle.serializer.specs.Scopes.{scope_of, AreNamed, AreAt, AreAbout, Declares}
-use Rattle.serializer.specs.declared.bindings.Binding.{Binding}
-use Rattle.serializer.proofs.Declaring.{scope_declared, named_more}
+use Rattle.serializer.specs.Scopes.{InForce, scope_of, outside, AreAt, AreAbout, Declares}
+use Rattle.serializer.proofs.Declaring.{outside_own}
 
 -- ---- the text of one node, cut at its children
 
@@ -103,9 +103,6 @@ further_on ls front more line at m e is =
 reaches : (ls front more : List (Line Label)) (line : Line Label) (at m : ℕ) → drop at ls ≡ line ∷ (front ++ more) → m ≡ suc (length front) → at + m ≤ length ls
 reaches ls front more line at m e is = omega (arith, ap length e, length-drop at ls, length-append front more)
 
-abbrev pub no_row : Row
-no_row = record { kind = Doc; name = 0; dist = 0; size = 0; asize = 0; id = 0; val = record { at = 0; len = 0 } }
-
 pub record IsRow (names : List Name) (values : List ℕ) (rows : List Row) (at : ℕ) (line : Line Label) : Type 0 where
   pub within : at < length rows
   pub is : line_of names values (get_or rows at no_row) ≡ line
@@ -120,48 +117,39 @@ row_there names values (row ∷ rows) (suc at) line behind e =
 -- ---- the bindings in force
 
 -- what is in scope is what the bindings say
-pub scope_is : (names : List Name) (outer : List Opened) (bindings : List Binding) → AreInForce names outer bindings → scope_of names bindings ≡ scope_inside outer
-scope_is names [] bindings h = ap (scope_of names) h
-scope_is names (o ∷ outer) bindings h =
-    scope_declared names o.place (declared (scope_inside outer) o.line.label o.attrs) h.0 bindings h.2
-    ∙ ap (λ (s : Scope). behind (declared (scope_inside outer) o.line.label o.attrs) s) (scope_is names outer h.0 h.1)
-    ∙ sym (scope_in_is (scope_inside outer) o.line.label o.attrs)
+pub scope_is : (outer : List Opened) (bindings : List InForce) → AreInForce outer bindings → scope_of bindings ≡ scope_inside outer
+scope_is [] bindings h = ap scope_of h
+scope_is (o ∷ outer) bindings h =
+    h.2.scope ∙ ap (behind (declared (scope_inside outer) o.line.label o.attrs)) (scope_is outer h.0 h.1) ∙ sym (scope_in_is (scope_inside outer) o.line.label o.attrs)
 
-pub named_in_force : (names : List Name) (outer : List Opened) (bindings : List Binding) → AreInForce names outer bindings → AreNamed names bindings
-named_in_force names [] bindings h = subst (AreNamed names) (sym h) tt
-named_in_force names (o ∷ outer) bindings h =
-    named_more names o.place (declared (scope_inside outer) o.line.label o.attrs) h.0 bindings (named_in_force names outer h.0 h.1) h.2
-
-about_further : (place further : ℕ) (bindings : List Binding) → place ≤ further → AreAbout place bindings → AreAbout further bindings
+about_further : (place further : ℕ) (bindings : List InForce) → place ≤ further → AreAbout place bindings → AreAbout further bindings
 about_further place further [] le h = tt
 about_further place further (b ∷ bindings) le h = (omega (arith, h.0), about_further place further bindings le h.1)
 
-about_own : (place further : ℕ) (own : List Binding) → place < further → AreAt place own → AreAbout further own
+about_own : (place further : ℕ) (own : List InForce) → place < further → AreAt place own → AreAbout further own
 about_own place further [] lt h = tt
 about_own place further (b ∷ own) lt h = (omega (arith, h.0), about_own place further own lt h.1)
 
-about-append : (place : ℕ) (xs ys : List Binding) → AreAbout place xs → AreAbout place ys → AreAbout place (xs ++ ys)
+about-append : (place : ℕ) (xs ys : List InForce) → AreAbout place xs → AreAbout place ys → AreAbout place (xs ++ ys)
 about-append place [] ys p q = q
 about-append place (x ∷ xs) ys p q = (p.0, about-append place xs ys p.1 q)
 
 -- all of them were made by nodes before a node that stands in all of these
-pub about_is : (names : List Name) (ls : List (Line Label)) (top : ℕ) (o : Opened) (outer : List Opened) (bindings : List Binding) → AreOpen ls top o outer → AreInForce names outer bindings → AreAbout o.place bindings
-about_is names ls top o [] bindings open_is h = subst (AreAbout o.place) (sym h) tt
-about_is names ls top o (p ∷ outer) bindings open_is h =
-    let before : AreAbout p.place h.0 = about_is names ls top p outer h.0 open_is.4 h.1 in
+pub about_is : (ls : List (Line Label)) (top : ℕ) (o : Opened) (outer : List Opened) (bindings : List InForce) → AreOpen ls top o outer → AreInForce outer bindings → AreAbout o.place bindings
+about_is ls top o [] bindings open_is h = subst (AreAbout o.place) (sym h) tt
+about_is ls top o (p ∷ outer) bindings open_is h =
+    let before : AreAbout p.place h.0 = about_is ls top p outer h.0 open_is.4 h.1 in
     let lt : p.place < o.place = omega (arith, open_is.1, open_is.2) in
     subst (AreAbout o.place) (sym h.2.is)
-    (about-append o.place h.0 h.2.own (about_further p.place o.place h.0 (omega arith) before) (about_own p.place o.place h.2.own lt h.2.at))
+    (about-append o.place h.2.own h.0 (about_own p.place o.place h.2.own lt h.2.at) (about_further p.place o.place h.0 (omega arith) before))
 
 -- a node's own bindings are left, and those about it are in force again
-pub left_is : (names : List Name) (ls : List (Line Label)) (top at : ℕ) (o : Opened) (outer : List Opened) (pairs : List Pair) (about bindings new : List Binding) → o.place ≡ at
-    → AreOpen ls top o outer → AreInForce names outer about → Declares names o.place pairs about bindings
-    → ((about own : List Binding) → bindings ≡ about ++ own → AreAbout at about → AreAt at own → new ≡ about)
-    → AreInForce names outer new
-left_is names ls top at o outer pairs about bindings new place open_is h d left =
-    let before : AreAbout at about = subst (λ n. AreAbout n about) place (about_is names ls top o outer about open_is h) in
-    let own : AreAt at d.own = subst (λ n. AreAt n d.own) place d.at in
-    subst (AreInForce names outer) (sym (left about d.own d.is before own)) h
+pub left_is : (ls : List (Line Label)) (top at : ℕ) (o : Opened) (outer : List Opened) (pairs : List Pair) (about bindings new : List InForce) → o.place ≡ at
+    → AreOpen ls top o outer → AreInForce outer about → Declares o.place pairs about bindings → new ≡ outside at bindings → AreInForce outer new
+left_is ls top at o outer pairs about bindings new place open_is h d left =
+    let back : outside at bindings ≡ about
+    = ap (λ n. outside n bindings) (sym place) ∙ ap (outside o.place) d.is ∙ outside_own o.place d.own about d.at (about_is ls top o outer about open_is h) in
+    subst (AreInForce outer) (sym (left ∙ back)) h
 
 -- ---- a node is printed up to its children
 
@@ -172,17 +160,17 @@ text_down out front text right back left new whole all e is h =
     ap (λ l. l ++ (text ++ (right ++ (back ++ left)))) e ∙ regroup ∙ ap (λ l. out ++ (l ++ left)) (sym is) ∙ h
 
 -- its first child is next
-down : (names : List Name) (ls : List (Line Label)) (top : ℕ) (bindings inner : List Binding) (out new whole : List ℕ) (node : Opened) (outer : List Opened) (tail : List (Line Label)) (kids : Forest Label)
-    → AreOpen ls top node outer → AreInForce names (node ∷ outer) inner → node.line.size ≡ 1 + length node.attrs + count kids → node.line.asize ≡ 1 + length node.attrs
+down : (ls : List (Line Label)) (top : ℕ) (bindings inner : List InForce) (out new whole : List ℕ) (node : Opened) (outer : List Opened) (tail : List (Line Label)) (kids : Forest Label)
+    → AreOpen ls top node outer → AreInForce (node ∷ outer) inner → node.line.size ≡ 1 + length node.attrs + count kids → node.line.asize ≡ 1 + length node.attrs
     → node.behind ≡ attr_lines 1 node.attrs ++ (lines (1 + length node.attrs) kids ++ lines_left tail (node ∷ outer))
     → out ++ (tree_text (scope_inside outer) node.line.label node.attrs (has_trees kids) (trees_text (scope_inside (node ∷ outer)) kids) ++ (trees_text (scope_inside outer) node.right ++ text_left outer)) ≡ whole
     → opens node.line.label.kind node.line.asize node.line.size ≡ true → new ≡ out ++ front_text (scope_inside outer) node.line.label node.attrs (nat_lt node.line.asize node.line.size)
-    → Ahead names ls top (node.place + node.line.asize) inner new whole
-down names ls top bindings inner out new whole node outer tail none open_is bound_is size_is asize_is behind_is text_is is_open e =
+    → Ahead ls top (node.place + node.line.asize) inner new whole
+down ls top bindings inner out new whole node outer tail none open_is bound_is size_is asize_is behind_is text_is is_open e =
     let b : nat_lt node.line.asize node.line.size ≡ true = and_right (shows_children node.line.label.kind) (nat_lt node.line.asize node.line.size) is_open in
     let c : nat_lt node.line.asize node.line.size ≡ false = kids_by_size none node.line.size node.line.asize (omega arith) in
     cc
-down names ls top bindings inner out new whole node outer tail (tree l a k r) open_is bound_is size_is asize_is behind_is text_is is_open e =
+down ls top bindings inner out new whole node outer tail (tree l a k r) open_is bound_is size_is asize_is behind_is text_is is_open e =
     let d : ℕ = 1 + length node.attrs in
     let line : Line Label = record { label = l; dist = d; size = 1 + length a + count k; asize = 1 + length a } in
     let left : List (Line Label) = lines_left tail (node ∷ outer) in
@@ -212,10 +200,10 @@ down names ls top bindings inner out new whole node outer tail (tree l a k r) op
     }
 
 -- or it is printed whole
-over : (names : List Name) (ls : List (Line Label)) (top at : ℕ) (bindings left_over : List Binding) (out new whole : List ℕ) (w : Ahead names ls top at bindings out whole) → AreInForce names w.outer left_over
+over : (ls : List (Line Label)) (top at : ℕ) (bindings left_over : List InForce) (out new whole : List ℕ) (w : Ahead ls top at bindings out whole) → AreInForce w.outer left_over
     → opens w.node.line.label.kind w.node.line.asize w.node.line.size ≡ false → new ≡ out ++ front_text (scope_inside w.outer) w.node.line.label w.node.attrs (nat_lt w.node.line.asize w.node.line.size)
-    → Ended names ls top at (at + w.node.line.size) left_over new whole
-over names ls top at bindings left_over out new whole w bound_is closed e =
+    → Ended ls top at (at + w.node.line.size) left_over new whole
+over ls top at bindings left_over out new whole w bound_is closed e =
     let left : List (Line Label) = lines_left w.tail (w.node ∷ w.outer) in
     let front : List (Line Label) = attr_lines 1 w.node.attrs ++ lines (1 + length w.node.attrs) w.kids in
     let place : drop at ls ≡ w.node.line ∷ w.node.behind = ap (λ n. drop n ls) (sym w.at_is) ∙ line_there ls top w.node w.outer w.open_is in
@@ -246,38 +234,42 @@ no_trees none e = refl
 no_trees (tree l a k r) e = absurd (omega arith)
 
 -- the node at top is: nothing is left
-pub all_over : (names : List Name) (ls : List (Line Label)) (top at end : ℕ) (bindings : List Binding) (out whole : List ℕ) (w : Ended names ls top at end bindings out whole) → at ≡ top → out ≡ whole
-all_over names ls top at end bindings out whole w e = by w.outer w.open_is w.text_is
+pub all_over : (ls : List (Line Label)) (top at end : ℕ) (bindings : List InForce) (out whole : List ℕ) (w : Ended ls top at end bindings out whole) → at ≡ top → out ≡ whole
+all_over ls top at end bindings out whole w e = by w.outer w.open_is w.text_is
   where
     by : (outer : List Opened) → AreOpen ls top w.node outer → out ++ (trees_text (scope_inside outer) w.node.right ++ text_left outer) ≡ whole → out ≡ whole
     by [] open_is text_is = sym (append-nil out) ∙ ap (λ f. out ++ (trees_text first_scope f ++ [])) (sym open_is.2) ∙ text_is
     by (p ∷ outer) open_is text_is = absurd (omega (arith, w.at_is, open_is.1, open_is.2, top_below ls top p outer open_is.4))
 
--- another one is, and has a parent
-pub record Inside (names : List Name) (values : List ℕ) (rows : List Row) (top at end : ℕ) (bindings : List Binding) (out whole : List ℕ) (row parent : Row) : Type 0 where
-  pub own_within : at < length rows
-  pub forth : 0 < row.dist
-  pub back : row.dist ≤ at
-  pub parent_within : at - row.dist < length rows
-  pub reaches : at - row.dist + parent.size ≤ length rows
-  pub next : at - row.dist + parent.size ≢ end → Ahead names (lines_of names values rows) top end bindings out whole
-  pub ends : (new : List ℕ) (after : List Binding) → at - row.dist + parent.size ≡ end → new ≡ out ++ back_text (label_of names values parent)
-      → ((about own : List Binding) → bindings ≡ about ++ own → AreAbout (at - row.dist) about → AreAt (at - row.dist) own → after ≡ about)
-      → Ended names (lines_of names values rows) top (at - row.dist) end after new whole
+-- its row is there, as it says
+pub ended_within : (names : List Name) (values : List ℕ) (rows : List Row) (top at end : ℕ) (bindings : List InForce) (out whole : List ℕ) → Ended (lines_of names values rows) top at end bindings out whole → at < length rows
+ended_within names values rows top at end bindings out whole w =
+    let ls : List (Line Label) = lines_of names values rows in
+    (row_there names values rows at w.node.line w.node.behind (ap (λ n. drop n ls) (sym w.at_is) ∙ line_there ls top w.node w.outer w.open_is)).within
 
-pub inside : (names : List Name) (values : List ℕ) (rows : List Row) (top at end : ℕ) (bindings : List Binding) (out whole : List ℕ) → Ended names (lines_of names values rows) top at end bindings out whole → at ≢ top
-    → Inside names values rows top at end bindings out whole (get_or rows at no_row) (get_or rows (at - (get_or rows at no_row).dist) no_row)
-inside names values rows top at end bindings out whole w apart = by w.outer w.open_is w.bound_is w.lines_are w.text_is
+pub dist_there : (rows : List Row) (at : ℕ) (row : Row) → at < length rows → row ≡ get_or rows at row → row.dist ≡ dist_at rows at
+dist_there rows at row lt is = ap (λ (r : Row). r.dist) (get_or_read rows at row lt is no_row)
+
+-- another one is, and has a parent
+pub record Inside (names : List Name) (values : List ℕ) (rows : List Row) (top at end : ℕ) (bindings : List InForce) (out whole : List ℕ) (dist : ℕ) (parent : Row) : Type 0 where
+  pub forth : 0 < dist
+  pub back : dist ≤ at
+  pub parent_within : at - dist < length rows
+  pub reaches : at - dist + parent.size ≤ length rows
+  pub next : at - dist + parent.size ≢ end → Ahead (lines_of names values rows) top end bindings out whole
+  pub ends : (new : List ℕ) (after : List InForce) → at - dist + parent.size ≡ end → new ≡ out ++ back_text (label_of names values parent) → after ≡ outside (at - dist) bindings
+      → Ended (lines_of names values rows) top (at - dist) end after new whole
+
+inside_at : (names : List Name) (values : List ℕ) (rows : List Row) (top at end : ℕ) (bindings : List InForce) (out whole : List ℕ) (dist : ℕ) → Ended (lines_of names values rows) top at end bindings out whole → at ≢ top
+    → dist ≡ (get_or rows at no_row).dist → Inside names values rows top at end bindings out whole dist (get_or rows (at - dist) no_row)
+inside_at names values rows top at end bindings out whole dist w apart dist_is = by w.outer w.open_is w.bound_is w.lines_are w.text_is
   where
     ls : List (Line Label)
     ls = lines_of names values rows
 
-    row : Row
-    row = get_or rows at no_row
-
-    next_at : (right : Forest Label) (p : Opened) (outer : List Opened) → w.node.right ≡ right → count right ≢ 0 → AreOpen ls top w.node (p ∷ outer) → AreInForce names (p ∷ outer) bindings
+    next_at : (right : Forest Label) (p : Opened) (outer : List Opened) → w.node.right ≡ right → count right ≢ 0 → AreOpen ls top w.node (p ∷ outer) → AreInForce (p ∷ outer) bindings
         → drop end ls ≡ lines (raise w.node.line.dist w.node.line.size) right ++ lines_left w.tail (p ∷ outer)
-        → out ++ (trees_text (scope_inside (p ∷ outer)) right ++ text_left (p ∷ outer)) ≡ whole → Ahead names ls top end bindings out whole
+        → out ++ (trees_text (scope_inside (p ∷ outer)) right ++ text_left (p ∷ outer)) ≡ whole → Ahead ls top end bindings out whole
     next_at none p outer same some open_is bound_is lines_are text_is = absurd (some refl)
     next_at (tree l a k r) p outer same some open_is bound_is lines_are text_is =
         let d : ℕ = raise w.node.line.dist w.node.line.size in
@@ -302,23 +294,22 @@ inside names values rows top at end bindings out whole w apart = by w.outer w.op
           text_is = ap (λ l. out ++ l) (sym (append_assoc (tree_text scope l a (has_trees k) (trees_text (scope_in scope l a) k)) (trees_text scope r) (text_left (p ∷ outer)))) ∙ text_is;
         }
 
-    by : (outer : List Opened) → AreOpen ls top w.node outer → AreInForce names outer bindings → drop end ls ≡ lines (raise w.node.line.dist w.node.line.size) w.node.right ++ lines_left w.tail outer
-        → out ++ (trees_text (scope_inside outer) w.node.right ++ text_left outer) ≡ whole → Inside names values rows top at end bindings out whole row (get_or rows (at - row.dist) no_row)
+    by : (outer : List Opened) → AreOpen ls top w.node outer → AreInForce outer bindings → drop end ls ≡ lines (raise w.node.line.dist w.node.line.size) w.node.right ++ lines_left w.tail outer
+        → out ++ (trees_text (scope_inside outer) w.node.right ++ text_left outer) ≡ whole → Inside names values rows top at end bindings out whole dist (get_or rows (at - dist) no_row)
     by [] open_is bound_is lines_are text_is = absurd (apart (sym w.at_is ∙ open_is.1))
     by (p ∷ outer) open_is bound_is lines_are text_is =
         let own = row_there names values rows at w.node.line w.node.behind (ap (λ n. drop n ls) (sym w.at_is) ∙ open_is.0) in
-        let dist : row.dist ≡ w.node.line.dist = ap (λ (l : Line Label). l.dist) own.is in
-        let up : at - row.dist ≡ p.place = omega (arith, open_is.2, w.at_is, dist) in
-        let its = row_there names values rows (at - row.dist) p.line p.behind (ap (λ n. drop n ls) up ∙ line_there ls top p outer open_is.4) in
-        let size : (get_or rows (at - row.dist) no_row).size ≡ p.line.size = ap (λ (l : Line Label). l.size) its.is in
+        let far : dist ≡ w.node.line.dist = dist_is ∙ ap (λ (l : Line Label). l.dist) own.is in
+        let up : at - dist ≡ p.place = omega (arith, open_is.2, w.at_is, far) in
+        let its = row_there names values rows (at - dist) p.line p.behind (ap (λ n. drop n ls) up ∙ line_there ls top p outer open_is.4) in
+        let size : (get_or rows (at - dist) no_row).size ≡ p.line.size = ap (λ (l : Line Label). l.size) its.is in
         let many : length ls - end ≡ count w.node.right + length (lines_left w.tail (p ∷ outer)) =
         sym (length-drop end ls) ∙ ap length lines_are ∙ length-append (lines (raise w.node.line.dist w.node.line.size) w.node.right) (lines_left w.tail (p ∷ outer))
         ∙ ap (λ n. n + length (lines_left w.tail (p ∷ outer))) (length-lines (raise w.node.line.dist w.node.line.size) w.node.right) in
         let all : length ls ≡ length rows = length-map rows (line_of names values) in
         record {
-          own_within = own.within;
-          forth = omega (arith, open_is.1, dist);
-          back = omega (arith, open_is.2, w.at_is, dist);
+          forth = omega (arith, open_is.1, far);
+          back = omega (arith, open_is.2, w.at_is, far);
           parent_within = its.within;
           reaches = omega (arith, up, size, many, all, open_is.3, w.end_is, w.at_is, w.within_is);
           next = λ ne. next_at w.node.right p outer refl (λ e. ne (omega (arith, up, size, open_is.3, w.end_is, w.at_is))) open_is bound_is lines_are text_is;
@@ -329,7 +320,7 @@ inside names values rows top at end bindings out whole w apart = by w.outer w.op
                 outer = outer;
                 tail = w.tail;
                 open_is = open_is.4;
-                bound_is = left_is names ls top (at - row.dist) p outer (declared (scope_inside outer) p.line.label p.attrs) bound_is.0 bindings after (sym up) open_is.4 bound_is.1 bound_is.2 left;
+                bound_is = left_is ls top (at - dist) p outer (declared (scope_inside outer) p.line.label p.attrs) bound_is.0 bindings after (sym up) open_is.4 bound_is.1 bound_is.2 left;
                 at_is = sym up;
                 end_is = omega (arith, up, size);
                 within_is = w.within_is;
@@ -340,27 +331,39 @@ inside names values rows top at end bindings out whole w apart = by w.outer w.op
               };
         }
 
+pub inside : (names : List Name) (values : List ℕ) (rows : List Row) (top at end : ℕ) (bindings : List InForce) (out whole : List ℕ) (dist : ℕ) (parent : Row) → Ended (lines_of names values rows) top at end bindings out whole
+    → at ≢ top → dist ≡ (get_or rows at no_row).dist → parent ≡ get_or rows (at - dist) parent → Inside names values rows top at end bindings out whole dist parent
+inside names values rows top at end bindings out whole dist parent w apart dist_is parent_is =
+    let up = inside_at names values rows top at end bindings out whole dist w apart dist_is in
+    subst (Inside names values rows top at end bindings out whole dist) (sym (get_or_read rows (at - dist) parent up.parent_within parent_is no_row)) up
+
+-- the row of the parent is there
+pub parent_there : (names : List Name) (values : List ℕ) (rows : List Row) (top at end : ℕ) (bindings : List InForce) (out whole : List ℕ) (dist : ℕ) → Ended (lines_of names values rows) top at end bindings out whole → at ≢ top
+    → dist ≡ (get_or rows at no_row).dist → (dist ≤ at) × (at - dist < length rows)
+parent_there names values rows top at end bindings out whole dist w apart dist_is =
+    let up = inside_at names values rows top at end bindings out whole dist w apart dist_is in (up.back, up.parent_within)
+
 -- ---- a turn
 
-pub record Turn (names : List Name) (values : List ℕ) (rows : List Row) (top at : ℕ) (bindings : List Binding) (out whole : List ℕ) (row : Row) : Type 0 where
+pub record Turn (names : List Name) (values : List ℕ) (rows : List Row) (top at : ℕ) (bindings : List InForce) (out whole : List ℕ) (row : Row) : Type 0 where
   pub own_within : at < length rows
   pub own_asize : 0 < row.asize
   pub own_size : 0 < row.size
   pub attrs_within : at + row.asize ≤ length rows
-  pub named : AreNamed names bindings
-  pub first_child : (new : List ℕ) (attrs : List Row) (inner : List Binding) → attrs ≡ slice_range rows (at + 1) (at + row.asize) → opens row.kind row.asize row.size ≡ true
-      → new ≡ out ++ front_text (scope_of names bindings) (label_of names values row) (map (label_of names values) attrs) (nat_lt row.asize row.size)
-      → Declares names at (declared (scope_of names bindings) (label_of names values row) (map (label_of names values) attrs)) bindings inner
-      → Ahead names (lines_of names values rows) top (at + row.asize) inner new whole
-  pub printed : (new : List ℕ) (attrs : List Row) (inner after : List Binding) → attrs ≡ slice_range rows (at + 1) (at + row.asize) → opens row.kind row.asize row.size ≡ false
-      → new ≡ out ++ front_text (scope_of names bindings) (label_of names values row) (map (label_of names values) attrs) (nat_lt row.asize row.size)
-      → Declares names at (declared (scope_of names bindings) (label_of names values row) (map (label_of names values) attrs)) bindings inner
-      → ((about own : List Binding) → inner ≡ about ++ own → AreAbout at about → AreAt at own → after ≡ about)
-      → Ended names (lines_of names values rows) top at (at + row.size) after new whole
+  pub size_within : at + row.size ≤ length rows
+  pub first_child : (new : List ℕ) (attrs : List Row) (inner : List InForce) → attrs ≡ slice_range rows (at + 1) (at + row.asize) → opens row.kind row.asize row.size ≡ true
+      → new ≡ out ++ front_text (scope_of bindings) (label_of names values row) (map (label_of names values) attrs) (nat_lt row.asize row.size)
+      → Declares at (declared (scope_of bindings) (label_of names values row) (map (label_of names values) attrs)) bindings inner
+      → Ahead (lines_of names values rows) top (at + row.asize) inner new whole
+  pub printed : (new : List ℕ) (attrs : List Row) (inner after : List InForce) → attrs ≡ slice_range rows (at + 1) (at + row.asize) → opens row.kind row.asize row.size ≡ false
+      → new ≡ out ++ front_text (scope_of bindings) (label_of names values row) (map (label_of names values) attrs) (nat_lt row.asize row.size)
+      → Declares at (declared (scope_of bindings) (label_of names values row) (map (label_of names values) attrs)) bindings inner
+      → after ≡ outside at inner
+      → Ended (lines_of names values rows) top at (at + row.size) after new whole
 
-pub turn : (names : List Name) (values : List ℕ) (rows : List Row) (top at : ℕ) (bindings : List Binding) (out whole : List ℕ) → Ahead names (lines_of names values rows) top at bindings out whole
+turn_at : (names : List Name) (values : List ℕ) (rows : List Row) (top at : ℕ) (bindings : List InForce) (out whole : List ℕ) → Ahead (lines_of names values rows) top at bindings out whole
     → Turn names values rows top at bindings out whole (get_or rows at no_row)
-turn names values rows top at bindings out whole w =
+turn_at names values rows top at bindings out whole w =
     let ls : List (Line Label) = lines_of names values rows in
     let row : Row = get_or rows at no_row in
     let part : List Row = slice_range rows (at + 1) (at + row.asize) in
@@ -391,47 +394,53 @@ turn names values rows top at bindings out whole w =
     ∙ labels-attr_lines 1 w.node.attrs in
     let label : Label = label_of names values row in
     let b : Bool = nat_lt row.asize row.size in
-    let scope : scope_of names bindings ≡ scope_inside w.outer = scope_is names w.outer bindings w.bound_is in
+    let scope : scope_of bindings ≡ scope_inside w.outer = scope_is w.outer bindings w.bound_is in
     let label_is : label ≡ w.node.line.label = ap (λ (l : Line Label). l.label) own.is in
-    let shown : (attrs : List Row) → attrs ≡ part → out ++ front_text (scope_of names bindings) label (map (label_of names values) attrs) b
+    let shown : (attrs : List Row) → attrs ≡ part → out ++ front_text (scope_of bindings) label (map (label_of names values) attrs) b
     ≡ out ++ front_text (scope_inside w.outer) w.node.line.label w.node.attrs (nat_lt w.node.line.asize w.node.line.size)
     = λ attrs are. ap (λ (s : Scope). out ++ front_text s label (map (label_of names values) attrs) b) scope
     ∙ ap (λ (l : List Row). out ++ front_text (scope_inside w.outer) label (map (label_of names values) l) b) are
     ∙ ap (λ (l : List Label). out ++ front_text (scope_inside w.outer) label l b) attrs_are
     ∙ ap (λ (l : Line Label). out ++ front_text (scope_inside w.outer) l.label w.node.attrs (nat_lt l.asize l.size)) own.is in
-    let same_pairs : (attrs : List Row) → attrs ≡ part → declared (scope_of names bindings) label (map (label_of names values) attrs) ≡ declared (scope_inside w.outer) w.node.line.label w.node.attrs
+    let same_pairs : (attrs : List Row) → attrs ≡ part → declared (scope_of bindings) label (map (label_of names values) attrs) ≡ declared (scope_inside w.outer) w.node.line.label w.node.attrs
     = λ attrs are. ap (λ (s : Scope). declared s label (map (label_of names values) attrs)) scope
     ∙ ap (λ (l : List Row). declared (scope_inside w.outer) label (map (label_of names values) l)) are
     ∙ ap (λ (l : List Label). declared (scope_inside w.outer) label l) attrs_are
     ∙ ap (λ (l : Label). declared (scope_inside w.outer) l w.node.attrs) label_is in
     let pairs : List Pair = declared (scope_inside w.outer) w.node.line.label w.node.attrs in
-    let own_declares : (attrs : List Row) (inner : List Binding) → attrs ≡ part → Declares names at (declared (scope_of names bindings) label (map (label_of names values) attrs)) bindings inner
-    → Declares names w.node.place pairs bindings inner
-    = λ attrs inner are d. subst (λ n. Declares names n pairs bindings inner) (sym w.at_is) (subst (λ (ps : List Pair). Declares names at ps bindings inner) (same_pairs attrs are) d) in
+    let own_declares : (attrs : List Row) (inner : List InForce) → attrs ≡ part → Declares at (declared (scope_of bindings) label (map (label_of names values) attrs)) bindings inner
+    → Declares w.node.place pairs bindings inner
+    = λ attrs inner are d. subst (λ n. Declares n pairs bindings inner) (sym w.at_is) (subst (λ (ps : List Pair). Declares at ps bindings inner) (same_pairs attrs are) d) in
     record {
       own_within = own.within;
       own_asize = omega (arith, asize, w.asize_is);
       own_size = omega (arith, size, w.size_is);
       attrs_within = omega (arith, some, asize, size, w.asize_is, w.size_is);
-      named = named_in_force names w.outer bindings w.bound_is;
+      size_within = some;
       first_child = λ new attrs inner are is_open e d.
           let at_same : w.node.place + w.node.line.asize ≡ at + row.asize = omega (arith, w.at_is, asize) in
-          let P : ℕ → Type 0 = λ n. Ahead names ls top n inner new whole in
-          let in_force : AreInForce names (w.node ∷ w.outer) inner = (bindings, w.bound_is, own_declares attrs inner are d) in
-          subst P at_same (down names ls top bindings inner out new whole w.node w.outer w.tail w.kids w.open_is in_force w.size_is w.asize_is w.behind_is w.text_is
+          let P : ℕ → Type 0 = λ n. Ahead ls top n inner new whole in
+          let in_force : AreInForce (w.node ∷ w.outer) inner = (bindings, w.bound_is, own_declares attrs inner are d) in
+          subst P at_same (down ls top bindings inner out new whole w.node w.outer w.tail w.kids w.open_is in_force w.size_is w.asize_is w.behind_is w.text_is
           (ap (λ (l : Line Label). opens l.label.kind l.asize l.size) (sym own.is) ∙ is_open) (e ∙ shown attrs are));
       printed = λ new attrs inner after are closed e d left.
-          let P : ℕ → Type 0 = λ n. Ended names ls top at (at + n) after new whole in
-          let in_force : AreInForce names w.outer after = left_is names ls top at w.node w.outer pairs bindings inner after w.at_is w.open_is w.bound_is (own_declares attrs inner are d) left in
-          subst P (sym size) (over names ls top at bindings after out new whole w in_force (ap (λ (l : Line Label). opens l.label.kind l.asize l.size) (sym own.is) ∙ closed) (e ∙ shown attrs are));
+          let P : ℕ → Type 0 = λ n. Ended ls top at (at + n) after new whole in
+          let in_force : AreInForce w.outer after = left_is ls top at w.node w.outer pairs bindings inner after w.at_is w.open_is w.bound_is (own_declares attrs inner are d) left in
+          subst P (sym size) (over ls top at bindings after out new whole w in_force (ap (λ (l : Line Label). opens l.label.kind l.asize l.size) (sym own.is) ∙ closed) (e ∙ shown attrs are));
     }
+
+pub turn : (names : List Name) (values : List ℕ) (rows : List Row) (top at : ℕ) (bindings : List InForce) (out whole : List ℕ) (row : Row) → row ≡ get_or rows at row → Ahead (lines_of names values rows) top at bindings out whole
+    → Turn names values rows top at bindings out whole row
+turn names values rows top at bindings out whole row is w =
+    let now = turn_at names values rows top at bindings out whole w in
+    subst (Turn names values rows top at bindings out whole) (sym (get_or_read rows at row now.own_within is no_row)) now
 
 -- ---- the first turn
 
 -- a node with a place is printed next, and is all there is to print
-pub begun : (names : List Name) (ls : List (Line Label)) (node : Node Label) (top : ℕ) (bindings : List Binding) (out : List ℕ) → IsFlat ls → bindings ≡ [] → IsIn (nodes (grove_of ls)) node → node.place ≡ top
-    → Ahead names ls top top bindings out (out ++ node_text node)
-begun names ls node top bindings out flat empty h at =
+pub begun : (ls : List (Line Label)) (node : Node Label) (top : ℕ) (bindings : List InForce) (out : List ℕ) → IsFlat ls → bindings ≡ [] → IsIn (nodes (grove_of ls)) node → node.place ≡ top
+    → Ahead ls top top bindings out (out ++ node_text node)
+begun ls node top bindings out flat empty h at =
     let s = stands 0 0 (grove_of ls) node h in
     let behind : List (Line Label) = attr_lines 1 node.attrs ++ (lines (1 + length node.attrs) node.kids ++ s.behind) in
     let there : drop node.place ls ≡ own_line s.dist node ∷ behind =
@@ -468,20 +477,31 @@ some_node ls top flat lt =
     let P : List ℕ → Type 0 = λ l. IsIn l top in
     in_map place_of (nodes (grove_of ls)) top (subst P (sym (node_places 0 (grove_of ls))) (in_range 0 (count (grove_of ls)) top (omega arith) (omega (arith, flat-length ls flat))))
 
--- so where each node there leaves something to print, there is a turn
-pub some_turn : (names : List Name) (values : List ℕ) (rows : List Row) (top at : ℕ) (bindings : List Binding) (out before : List ℕ) → IsFlat (lines_of names values rows) → top < length rows
-    → ((node : Node Label) → Contains (nodes (grove_of (lines_of names values rows))) node → node.place ≡ top → Ahead names (lines_of names values rows) top at bindings out (before ++ node_text node))
-    → (whole : List ℕ) × Turn names values rows top at bindings out whole (get_or rows at no_row)
-some_turn names values rows top at bindings out before flat lt ahead =
+-- so where each node there leaves something to print, there is something to print
+some_ahead : (names : List Name) (values : List ℕ) (rows : List Row) (top at : ℕ) (bindings : List InForce) (out before : List ℕ) → IsFlat (lines_of names values rows) → top < length rows
+    → ((node : Node Label) → Contains (nodes (grove_of (lines_of names values rows))) node → node.place ≡ top → Ahead (lines_of names values rows) top at bindings out (before ++ node_text node))
+    → (whole : List ℕ) × Ahead (lines_of names values rows) top at bindings out whole
+some_ahead names values rows top at bindings out before flat lt ahead =
     let some = some_node (lines_of names values rows) top flat (omega (arith, length-map rows (line_of names values))) in
-    let whole : List ℕ = before ++ node_text some.0 in
-    (whole, turn names values rows top at bindings out whole (ahead some.0 (in_contains (nodes (grove_of (lines_of names values rows))) some.0 some.1) some.2))
+    (before ++ node_text some.0, ahead some.0 (in_contains (nodes (grove_of (lines_of names values rows))) some.0 some.1) some.2)
 
-pub then_whole : (names : List Name) (ls : List (Line Label)) (top end : ℕ) (all : Bool) (bindings : List Binding) (out whole : List ℕ) → Then names ls top end all bindings out whole → all ≡ true → out ≡ whole
-then_whole names ls top end true bindings out whole h e = h
-then_whole names ls top end false bindings out whole h e = cc
+pub row_within : (names : List Name) (values : List ℕ) (rows : List Row) (top at : ℕ) (bindings : List InForce) (out before : List ℕ) → IsFlat (lines_of names values rows) → top < length rows
+    → ((node : Node Label) → Contains (nodes (grove_of (lines_of names values rows))) node → node.place ≡ top → Ahead (lines_of names values rows) top at bindings out (before ++ node_text node))
+    → at < length rows
+row_within names values rows top at bindings out before flat lt ahead =
+    let some = some_ahead names values rows top at bindings out before flat lt ahead in (turn_at names values rows top at bindings out some.0 some.1).own_within
 
-pub then_ahead : (names : List Name) (ls : List (Line Label)) (top end : ℕ) (all : Bool) (bindings : List Binding) (out whole : List ℕ) → Then names ls top end all bindings out whole → all ≡ false
-    → Ahead names ls top end bindings out whole
-then_ahead names ls top end true bindings out whole h e = cc
-then_ahead names ls top end false bindings out whole h e = h
+pub some_turn : (names : List Name) (values : List ℕ) (rows : List Row) (top at : ℕ) (bindings : List InForce) (out before : List ℕ) (row : Row) → IsFlat (lines_of names values rows) → top < length rows → row ≡ get_or rows at row
+    → ((node : Node Label) → Contains (nodes (grove_of (lines_of names values rows))) node → node.place ≡ top → Ahead (lines_of names values rows) top at bindings out (before ++ node_text node))
+    → (whole : List ℕ) × Turn names values rows top at bindings out whole row
+some_turn names values rows top at bindings out before row flat lt is ahead =
+    let some = some_ahead names values rows top at bindings out before flat lt ahead in (some.0, turn names values rows top at bindings out some.0 row is some.1)
+
+pub then_whole : (ls : List (Line Label)) (top end : ℕ) (all : Bool) (bindings : List InForce) (out whole : List ℕ) → Then ls top end all bindings out whole → all ≡ true → out ≡ whole
+then_whole ls top end true bindings out whole h e = h
+then_whole ls top end false bindings out whole h e = cc
+
+pub then_ahead : (ls : List (Line Label)) (top end : ℕ) (all : Bool) (bindings : List InForce) (out whole : List ℕ) → Then ls top end all bindings out whole → all ≡ false
+    → Ahead ls top end bindings out whole
+then_ahead ls top end true bindings out whole h e = cc
+then_ahead ls top end false bindings out whole h e = h

@@ -4,11 +4,9 @@ use Rattle.tree_model.specs.Forest.{Forest, none, count, Line, raise, attr_lines
 use Rattle.tree_model.specs.Labels.{Label}
 use Rattle.tree_model.specs.Printing.{declarations, scope_in, start_text, end_text, attr_text, pi_text, data_text, tree_text, trees_text, has_trees}
 use Rattle.tree_model.specs.XmlMeaning.{Pair, Scope, first_scope}
-use Rattle.tree_model.specs.declared.text.Name.{Name}
 use Rattle.tree_model.specs.declared.row.Kind.{Kind}
 use Rattle.tree_model.specs.declared.row.Kind.TheVariants.{Doc, Elem, Text, Attr, Comm, Pi}
-use Rattle.serializer.specs.Scopes.{Declares}
-use Rattle.serializer.specs.declared.bindings.Binding.{Binding}
+use Rattle.serializer.specs.Scopes.{InForce, Declares}
 
 -- ---- the text of one node, cut at its children
 
@@ -96,20 +94,19 @@ AreOpen ls top o (p ∷ outer) =
     (drop o.place ls ≡ o.line ∷ o.behind) × (0 < o.line.dist) × (o.place ≡ p.place + o.line.dist)
     × (o.place + o.line.size + count o.right ≡ p.place + p.line.size) × AreOpen ls top p outer
 
--- the bindings in force are those of these nodes, the innermost last
-abbrev pub AreInForce : List Name → List Opened → List Binding → Type 0
-AreInForce names [] bindings = bindings ≡ []
-AreInForce names (o ∷ outer) bindings =
-    (about : List Binding) × AreInForce names outer about × Declares names o.place (declared (scope_inside outer) o.line.label o.attrs) about bindings
+-- the bindings in force are those of these nodes
+abbrev pub AreInForce : List Opened → List InForce → Type 0
+AreInForce [] bindings = bindings ≡ []
+AreInForce (o ∷ outer) bindings = (about : List InForce) × AreInForce outer about × Declares o.place (declared (scope_inside outer) o.line.label o.attrs) about bindings
 
 -- the node at this place is to be printed next. With what is left, the bytes so far make the whole
-pub record Ahead (names : List Name) (ls : List (Line Label)) (top at : ℕ) (bindings : List Binding) (out whole : List ℕ) : Type 0 where
+pub record Ahead (ls : List (Line Label)) (top at : ℕ) (bindings : List InForce) (out whole : List ℕ) : Type 0 where
   pub node : Opened
   pub outer : List Opened
   pub tail : List (Line Label)
   pub kids : Forest Label
   pub open_is : AreOpen ls top node outer
-  pub bound_is : AreInForce names outer bindings
+  pub bound_is : AreInForce outer bindings
   pub at_is : node.place ≡ at
   pub size_is : node.line.size ≡ 1 + length node.attrs + count kids
   pub asize_is : node.line.asize ≡ 1 + length node.attrs
@@ -120,12 +117,12 @@ pub record Ahead (names : List Name) (ls : List (Line Label)) (top at : ℕ) (bi
       ≡ whole
 
 -- the node at this place is printed, and ends before another
-pub record Ended (names : List Name) (ls : List (Line Label)) (top at end : ℕ) (bindings : List Binding) (out whole : List ℕ) : Type 0 where
+pub record Ended (ls : List (Line Label)) (top at end : ℕ) (bindings : List InForce) (out whole : List ℕ) : Type 0 where
   pub node : Opened
   pub outer : List Opened
   pub tail : List (Line Label)
   pub open_is : AreOpen ls top node outer
-  pub bound_is : AreInForce names outer bindings
+  pub bound_is : AreInForce outer bindings
   pub at_is : node.place ≡ at
   pub end_is : at + node.line.size ≡ end
   pub within_is : end ≤ length ls
@@ -133,6 +130,6 @@ pub record Ended (names : List Name) (ls : List (Line Label)) (top at end : ℕ)
   pub text_is : out ++ (trees_text (scope_inside outer) node.right ++ text_left outer) ≡ whole
 
 -- all is printed, or another node is next
-abbrev pub Then : List Name → List (Line Label) → ℕ → ℕ → Bool → List Binding → List ℕ → List ℕ → Type 0
-Then names ls top end true bindings out whole = out ≡ whole
-Then names ls top end false bindings out whole = Ahead names ls top end bindings out whole
+abbrev pub Then : List (Line Label) → ℕ → ℕ → Bool → List InForce → List ℕ → List ℕ → Type 0
+Then ls top end true bindings out whole = out ≡ whole
+Then ls top end false bindings out whole = Ahead ls top end bindings out whole

@@ -1,43 +1,44 @@
--- What bindings bind.
-use Rattle.std.specs.Prelude.{◌≡◌, ◌<◌, ℕ, List, [], ◌∷◌, ◌++◌, length, map, filter, not}
-use Rattle.tree_model.specs.Printing.{binding_of, behind}
-use Rattle.tree_model.specs.Rows.{name_at}
+-- The bindings of open elements, the innermost first, and the scope that they make.
+use Rattle.std.specs.Prelude.{◌≡◌, ◌<◌, ◌==◌, ℕ, List, [], ◌∷◌, ◌++◌, drop, map, filter, not}
+use Rattle.std.specs.List.{prefix_len}
+use Rattle.tree_model.specs.Printing.{behind}
 use Rattle.tree_model.specs.Sound.{is_empty}
 use Rattle.tree_model.specs.XmlMeaning.{Pair, Scope, first_scope}
 use Rattle.tree_model.specs.declared.text.Name.{Name}
-use Rattle.serializer.specs.declared.bindings.Binding.{Binding}
 
--- the declarations that made them
-abbrev pub pairs_of : List Name → List Binding → List Pair
-pairs_of names bindings = map (λ (b : Binding). binding_of (name_at names b.name)) bindings
+-- a prefix and its URI, bound by the element at a place
+pub record InForce : Type 0 where
+  pub place : ℕ
+  pub pair : Pair
+
+abbrev pub pairs_of : List InForce → List Pair
+pairs_of bindings = map (λ (b : InForce). b.pair) bindings
 
 -- what is in scope where they are in force
-abbrev pub scope_of : List Name → List Binding → Scope
-scope_of names bindings = behind (pairs_of names bindings) first_scope
+abbrev pub scope_of : List InForce → Scope
+scope_of bindings = pairs_of bindings ++ first_scope
+
+-- all but the innermost ones that the element at a place made
+abbrev pub outside : ℕ → List InForce → List InForce
+outside place bindings = drop (prefix_len (λ (b : InForce). b.place == place) bindings) bindings
 
 -- those names that have a prefix
 abbrev pub with_prefix : List Name → List Name
 with_prefix names = filter (λ (name : Name). not (is_empty name.prefix)) names
 
--- each was made by one of the names
-abbrev pub AreNamed : List Name → List Binding → Type 0
-AreNamed names [] = Unit {0}
-AreNamed names (b ∷ bindings) = (b.name < length names) × AreNamed names bindings
-
 -- all were made by the element at a place
-abbrev pub AreAt : ℕ → List Binding → Type 0
+abbrev pub AreAt : ℕ → List InForce → Type 0
 AreAt place [] = Unit {0}
 AreAt place (b ∷ bindings) = (b.place ≡ place) × AreAt place bindings
 
 -- all were made by elements before it
-abbrev pub AreAbout : ℕ → List Binding → Type 0
+abbrev pub AreAbout : ℕ → List InForce → Type 0
 AreAbout place [] = Unit {0}
 AreAbout place (b ∷ bindings) = (b.place < place) × AreAbout place bindings
 
 -- an element at a place makes these declarations
-pub record Declares (names : List Name) (place : ℕ) (declared : List Pair) (old new : List Binding) : Type 0 where
-  pub own : List Binding
-  pub is : new ≡ old ++ own
+pub record Declares (place : ℕ) (declared : List Pair) (old new : List InForce) : Type 0 where
+  pub own : List InForce
+  pub is : new ≡ own ++ old
   pub at : AreAt place own
-  pub named : AreNamed names own
-  pub pairs : pairs_of names own ≡ declared
+  pub scope : scope_of new ≡ behind declared (scope_of old)

@@ -1,86 +1,99 @@
 // The declarations that are in force while a node is printed.
-ghost use Rattle.std.specs.Prelude.{◌≡◌, ◌<◌, ◌≤◌, ◌++◌, List, [], ◌∷◌, length, OnOk};
+ghost use Rattle.std.specs.Prelude.{◌≡◌, ◌+◌, ◌==◌, [], ◌∷◌, length, OnOk};
+ghost use Rattle.std.specs.List.{suffix_len};
+ghost use Rattle.std.specs.Option.{option_copied};
 ghost use Rattle.tree_model.specs.Printing as printing;
-ghost use Rattle.tree_model.specs.Rows.{name_at};
-ghost use Rattle.tree_model.specs.XmlMeaning.{first_scope};
-ghost use Rattle.serializer.specs.Scopes.{scope_of, AreNamed, AreAt, AreAbout};
+ghost use Rattle.tree_model.specs.XmlMeaning.{uri_of, first_scope};
+ghost use Rattle.serializer.specs.Scopes.{pairs_of, scope_of, outside};
 ghost use Rattle.serializer.specs.declared.bindings.Binding.{Binding};
 
-use name_pool::NamePool;
+use crate::declarations::Declaration;
+use prefix_scopes::PrefixScopes;
 use std::alloc::Global;
 use std::marker::Model;
 use tree_model::{Name, NoMemory};
 
 const XML_URI: &str = "http://www.w3.org/XML/1998/namespace";
 
-// The element at `place` bound the prefix of the name with this number to its URI.
-#[derive(Clone, Copy, Debug, PartialEq, Eq)]
-pub(crate) struct Binding {
-    place: usize,
-    name: u64,
+// The element at `place` bound a prefix to this URI.
+#[derive(Clone, Copy)]
+struct Binding<'a> {
+    place: u32,
+    uri: &'a [u8],
 }
 
-// The bindings of the elements that are open, the innermost last. Contracts see their list.
-#[derive(Debug, Drop)]
-pub(crate) struct Bindings {
-    bindings: Vec<Binding>,
+// The bindings of the elements that are open. Contracts see their list, the innermost first.
+#[derive(Drop)]
+pub(crate) struct Bindings<'a> {
+    prefixes: PrefixScopes<'a>,
+    bindings: Vec<Binding<'a>>,
 }
 
-impl Model for Bindings {
-    ghost use Rattle.std.specs.Prelude.{List};
-    ghost use Rattle.serializer.specs.declared.bindings.Binding.{Binding};
+impl<'a> Model for Bindings<'a> {
+    ghost use Rattle.std.specs.Prelude.{List, reverse};
+    ghost use Rattle.serializer.specs.Scopes.{InForce};
+    ghost use Rattle.serializer.specs.Numbered.{in_force, AreNumbered};
 
-    ghost Value = { List Binding };
+    ghost Value = { List InForce };
 
-    ghost view = { λ b. b.bindings.items };
+    ghost view = { λ b. in_force b.prefixes (reverse b.bindings.items) };
+
+    ghost invariant = { λ b. AreNumbered b.prefixes (reverse b.bindings.items) };
 }
 
-impl Bindings {
+impl<'a> Bindings<'a> {
     // No bindings. Takes no memory.
-    pub(crate) fn new(alloc: Global) -> Bindings
+    pub(crate) fn new(alloc: Global) -> Bindings<'a>
         ensures { result ≡ [] }
     {
         Bindings {
+            prefixes: PrefixScopes::new(alloc),
             bindings: Vec::new(alloc),
         }
     }
 
-    // Whether the prefix of the name with a number stands for its URI. The name that bound it last needs no comparing.
-    pub(crate) fn is_bound(&self, names: &NamePool, number: u64) -> bool
-        requires named { AreNamed names.now self.now }
-        requires within { number < length names.now }
-        ensures { result ≡ printing.is_bound (scope_of names.now self.now) (name_at names.now number) }
+    // What a prefix is bound to by an element that is open. Looks nothing up where none binds any.
+    fn uri(&self, prefix: &[u8]) -> Option<&'a [u8]>
+        ensures { option_copied result ≡ uri_of prefix.now (pairs_of self.now) }
     {
-        let name = names.name(number);
-        let mut left = self.bindings.len();
-        while left > 0 {
-            left -= 1;
-            let last = self.bindings[left].name;
-            if last == number {
-                return true;
-            }
-            let other = names.name(last);
-            if other.prefix == name.prefix {
-                return other.uri == name.uri;
-            }
+        if self.bindings.is_empty() {
+            return None;
         }
-        is_bound_at_first(name)
+        let number = self.prefixes.find(prefix)?;
+        Some(self.bindings[number].uri)
     }
 
-    // A binding more, made by the element at `place`.
-    pub(crate) fn push(&mut self, place: usize, name: u64) -> Result<(), NoMemory>
-        ensures { OnOk result (self.new ≡ self.old ++ record { place = place; name = name } ∷ []) }
+    // Whether the prefix of a name, also the empty one, stands for its URI.
+    pub(crate) fn is_bound(&self, name: &Name) -> bool
+        ensures { result ≡ printing.is_bound (scope_of self.now) name.now }
     {
-        self.bindings.push(Binding { place, name })?;
+        match self.uri(name.prefix.as_str().as_bytes()) {
+            Some(uri) => uri == name.uri.as_str().as_bytes(),
+            None => is_bound_at_first(name),
+        }
+    }
+
+    // A binding inside all others, made by the element at `place`.
+    pub(crate) fn push(&mut self, place: u32, declaration: Declaration<'a>) -> Result<(), NoMemory>
+        ensures { OnOk result (self.new ≡ record { place = place; pair = (declaration.entry.prefix.now, declaration.entry.uri.now) } ∷ self.old) }
+    {
+        let Declaration { prefix, uri } = declaration;
+        self.bindings.reserve(1)?;
+        self.prefixes.bind(prefix, self.bindings.len())?;
+        self.bindings.push_reserved(Binding { place, uri });
         Ok(())
     }
 
-    // The bindings of the element at `place` go; those of the elements about it are kept.
-    pub(crate) fn leave(&mut self, place: usize)
-        ensures { (about own : List Binding) → self.old ≡ about ++ own → AreAbout place about → AreAt place own → self.new ≡ about }
+    // The bindings of the element at `place`, the innermost ones, go.
+    pub(crate) fn leave(&mut self, place: u32)
+        ensures { self.new ≡ outside place self.old }
     {
-        let about = length_about(self.bindings.as_slice(), place);
-        self.bindings.truncate(about);
+        let outer = length_outside(&self.bindings, place);
+        if outer == self.bindings.len() {
+            return;
+        }
+        self.prefixes.back_to(outer);
+        self.bindings.truncate(outer);
     }
 }
 
@@ -96,16 +109,9 @@ fn is_bound_at_first(name: &Name) -> bool
 }
 
 // How many bindings stand before those of the element at `place`, which are the last ones.
-fn length_about(bindings: &[Binding], place: usize) -> usize
-    ensures within { result ≤ length bindings.now }
-    ensures about { (about own : List Binding) → bindings.now ≡ about ++ own → AreAbout place about → AreAt place own → result ≡ length about }
+fn length_outside(bindings: &[Binding<'_>], place: u32) -> usize
+    ensures { result + suffix_len (λ (b : Binding). b.place == place) bindings.now ≡ length bindings.now }
 {
-    let mut len = bindings.len();
-    while len > 0 {
-        if bindings[len - 1].place != place {
-            return len;
-        }
-        len -= 1;
-    }
-    len
+    let own = bindings.iter().rev().take_while(|b| b.place == place);
+    bindings.len() - own.count()
 }

@@ -3,8 +3,10 @@
 
 mod atom;
 mod bindings;
+mod declarations;
 mod escape;
 mod node;
+mod rows;
 mod storage;
 
 pub use atom::print_atom;

@@ -1,17 +1,21 @@
 // The text of one node as XML.
-ghost use Rattle.std.specs.Prelude.{◌≡◌, ℕ, ◌+◌, ◌≤◌, ◌<◌, ◌++◌, List, [], ◌∷◌, length, map, slice_range, nat_lt, codes, OnOk, IfOk};
-ghost use Rattle.std.specs.List.{Contains, flat_map};
-ghost use Rattle.tree_model.specs.Forest.{grove_of, IsFlat};
+ghost use Rattle.std.specs.Prelude.{◌≡◌, ℕ, ◌+◌, ◌≤◌, ◌<◌, ◌^◌, ◌++◌, List, [], ◌∷◌, length, map, nat_lt, codes, OnOk, IfOk};
+ghost use Rattle.std.specs.List.{Contains, flat_map, slice_index_or};
+ghost use Rattle.tree_model.specs.Declarations.{declarations_of};
 ghost use Rattle.tree_model.specs.Labels.{Label};
 ghost use Rattle.tree_model.specs.Nodes.{Node, nodes};
-ghost use Rattle.tree_model.specs.Printing.{node_text, start_text, attr_text, pi_text, written_name, declared_name, declaration_text, binding_of, declarations, wanted};
-ghost use Rattle.tree_model.specs.Rows.{name_at, label_of, lines_of, ArePlaced};
+ghost use Rattle.tree_model.specs.Printing.{node_text, start_text, attr_text, pi_text, written_name, declaration_text, declarations, wanted};
+ghost use Rattle.tree_model.specs.Rows.{label_of, lines_of, ArePlaced};
+ghost use Rattle.node_table.specs.Tables.{rows_in, IsIn};
+ghost use Rattle.node_table.specs.Views.{view_of, view_forest, KeepsTrees};
 ghost use Rattle.serializer.specs.Growth.{Grew};
 ghost use Rattle.serializer.specs.Opened.{opens, tag_text, front_text, back_text, declared, Ended, Then};
-ghost use Rattle.serializer.specs.Scopes.{scope_of, with_prefix, AreNamed, Declares};
+ghost use Rattle.serializer.specs.Scopes.{scope_of, with_prefix, Declares};
 
 use crate::bindings::Bindings;
+use crate::declarations::{Declaration, next_declaration, push_declaration};
 use crate::escape::{AttributeValue, CharacterData, push_byte, push_bytes, push_escaped};
+use crate::rows::Rows;
 use frame_pool::Pool;
 use name_pool::NamePool;
 use node_table::NodeTable;
@@ -23,15 +27,6 @@ fn opens(row: &Row) -> bool
     ensures { result ≡ opens row.now.kind row.now.asize row.now.size }
 {
     matches!(row.kind, Kind::Doc | Kind::Elem) && row.asize < row.size
-}
-
-// The attributes of the element at `at`.
-fn attributes(rows: &[Row], at: usize, asize: u32) -> &[Row]
-    requires own { 0 < asize }
-    requires within { at + asize ≤ length rows.now }
-    ensures { result.now ≡ slice_range rows.now (at + 1) (at + asize) }
-{
-    &rows[at + 1..at + asize as usize]
 }
 
 // A name as it is written: its prefix and a colon, where it has one, and its local part.
@@ -48,100 +43,104 @@ fn push_name(out: &mut Vec<u8>, name: &Name) -> Result<(), NoMemory>
     push_bytes(out, name.local.as_str().as_bytes())
 }
 
-// The name of the attribute that declares a prefix.
-#[tactic(auto, using(crate::proofs::Growing::grew_twice))]
-fn push_declared_name(out: &mut Vec<u8>, prefix: &[u8]) -> Result<(), NoMemory>
-    ensures text { OnOk result (out.new.items ≡ out.old.items ++ declared_name prefix.now) }
+// Declares a prefix in the element at `place`.
+#[tactic(auto, using(crate::proofs::Growing::grew_none))]
+fn declare<'a>(
+    place: u32,
+    declaration: Declaration<'a>,
+    bindings: &mut Bindings<'a>,
+    out: &mut Vec<u8>,
+) -> Result<(), NoMemory>
+    ensures text { OnOk result (out.new.items ≡ out.old.items ++ declaration_text (declaration.entry.prefix.now, declaration.entry.uri.now)) }
+    ensures declares { OnOk result (Declares place ((declaration.entry.prefix.now, declaration.entry.uri.now) ∷ []) bindings.old bindings.new) }
     ensures kept { Grew out.old.items out.new.items }
 {
-    if prefix.is_empty() {
-        return push_bytes(out, b"xmlns");
+    push_declaration::<AttributeValue>(out, declaration)?;
+    Ok(bindings.push(place, declaration)?)
+}
+
+// The declarations that the element at `place` has itself: those whose text its value is.
+fn declare_own<'a>(
+    place: u32,
+    value: &'a [u8],
+    bindings: &mut Bindings<'a>,
+    out: &mut Vec<u8>,
+) -> Result<(), NoMemory>
+    ensures text { OnOk result (out.new.items ≡ out.old.items ++ flat_map declaration_text (declarations_of value.now)) }
+    ensures declares { OnOk result (Declares place (declarations_of value.now) bindings.old bindings.new) }
+    ensures kept { Grew out.old.items out.new.items }
+{
+    let mut rest = value;
+    while let Some((declaration, behind)) = next_declaration(rest) {
+        declare(place, declaration, bindings, out)?;
+        rest = behind;
     }
-    push_bytes(out, b"xmlns:")?;
-    push_bytes(out, prefix)
+    Ok(())
 }
 
-// The declaration that binds a name's prefix to its URI, behind a space.
-#[tactic(auto, using(crate::proofs::Growing::grew_twice))]
-fn push_declaration(out: &mut Vec<u8>, name: &Name) -> Result<(), NoMemory>
-    ensures text { OnOk result (out.new.items ≡ out.old.items ++ declaration_text (binding_of name.now)) }
+// Declares the prefix of a name, also the empty one, unless it is bound so already.
+#[tactic(auto, using(crate::proofs::Growing::grew_none))]
+fn declare_name<'a>(
+    place: u32,
+    name: &'a Name,
+    bindings: &mut Bindings<'a>,
+    out: &mut Vec<u8>,
+) -> Result<(), NoMemory>
+    ensures text { OnOk result (out.new.items ≡ out.old.items ++ flat_map declaration_text (wanted (scope_of bindings.old) (name.now ∷ []))) }
+    ensures declares { OnOk result (Declares place (wanted (scope_of bindings.old) (name.now ∷ [])) bindings.old bindings.new) }
     ensures kept { Grew out.old.items out.new.items }
 {
-    push_byte(out, b' ')?;
-    push_declared_name(out, name.prefix.as_str().as_bytes())?;
-    push_bytes(out, b"=\"")?;
-    push_escaped::<AttributeValue>(out, name.uri.as_str().as_bytes())?;
-    push_byte(out, b'"')
+    if bindings.is_bound(name) {
+        return Ok(());
+    }
+    let declaration = Declaration {
+        prefix: name.prefix.as_str().as_bytes(),
+        uri: name.uri.as_str().as_bytes(),
+    };
+    declare(place, declaration, bindings, out)
 }
 
-// The rows of a table with what their numbers stand for.
+// The same for the name of an attribute, which takes no part in the default.
+#[tactic(auto, using(crate::proofs::Growing::grew_none))]
+fn declare_prefix<'a>(
+    place: u32,
+    name: &'a Name,
+    bindings: &mut Bindings<'a>,
+    out: &mut Vec<u8>,
+) -> Result<(), NoMemory>
+    ensures text { OnOk result (out.new.items ≡ out.old.items ++ flat_map declaration_text (wanted (scope_of bindings.old) (with_prefix (name.now ∷ [])))) }
+    ensures declares { OnOk result (Declares place (wanted (scope_of bindings.old) (with_prefix (name.now ∷ []))) bindings.old bindings.new) }
+    ensures kept { Grew out.old.items out.new.items }
+{
+    if name.prefix.as_str().is_empty() {
+        return Ok(());
+    }
+    declare_name(place, name, bindings, out)
+}
+
+// What the numbers of rows stand for.
 #[derive(Clone, Copy)]
 struct Printer<'a> {
-    rows: &'a [Row],
     names: &'a NamePool,
     heap: &'a ValueHeap,
 }
 
-impl Printer<'_> {
-    // Declares the prefix of a name, unless it is bound so already.
-    #[tactic(auto, using(crate::proofs::Growing::grew_none, crate::proofs::Growing::grew_twice))]
-    fn declare(
-        &self,
-        place: usize,
-        number: u64,
-        bindings: &mut Bindings,
-        out: &mut Vec<u8>,
-    ) -> Result<(), NoMemory>
-        requires within { number < length self.now.names.now }
-        requires named { AreNamed self.now.names.now bindings.old }
-        ensures text { OnOk result (out.new.items ≡ out.old.items ++ flat_map declaration_text (wanted (scope_of self.now.names.now bindings.old) (name_at self.now.names.now number ∷ []))) }
-        ensures declares { OnOk result (Declares self.now.names.now place (wanted (scope_of self.now.names.now bindings.old) (name_at self.now.names.now number ∷ [])) bindings.old bindings.new) }
-        ensures kept { Grew out.old.items out.new.items }
-    {
-        if bindings.is_bound(self.names, number) {
-            return Ok(());
-        }
-        push_declaration(out, self.names.name(number))?;
-        bindings.push(place, number)
-    }
-
-    // The same for the name of an attribute, which takes no part in the default.
-    #[tactic(auto, using(crate::proofs::Growing::grew_none))]
-    fn declare_prefix(
-        &self,
-        place: usize,
-        number: u64,
-        bindings: &mut Bindings,
-        out: &mut Vec<u8>,
-    ) -> Result<(), NoMemory>
-        requires within { number < length self.now.names.now }
-        requires named { AreNamed self.now.names.now bindings.old }
-        ensures text { OnOk result (out.new.items ≡ out.old.items ++ flat_map declaration_text (wanted (scope_of self.now.names.now bindings.old) (with_prefix (name_at self.now.names.now number ∷ [])))) }
-        ensures declares { OnOk result (Declares self.now.names.now place (wanted (scope_of self.now.names.now bindings.old) (with_prefix (name_at self.now.names.now number ∷ []))) bindings.old bindings.new) }
-        ensures kept { Grew out.old.items out.new.items }
-    {
-        if self.names.name(number).prefix.as_str().is_empty() {
-            return Ok(());
-        }
-        self.declare(place, number, bindings, out)
-    }
-
+impl<'a> Printer<'a> {
     // What the attributes of the element at `place` want declared.
     fn declare_prefixes(
         &self,
-        place: usize,
+        place: u32,
         attrs: &[Row],
-        bindings: &mut Bindings,
+        bindings: &mut Bindings<'a>,
         out: &mut Vec<u8>,
     ) -> Result<(), NoMemory>
         requires placed { ArePlaced self.now.names.now self.now.heap.now attrs.now }
-        requires named { AreNamed self.now.names.now bindings.old }
-        ensures text { OnOk result (out.new.items ≡ out.old.items ++ flat_map declaration_text (wanted (scope_of self.now.names.now bindings.old) (with_prefix (map (λ (a : Label). a.name) (map (label_of self.now.names.now self.now.heap.now) attrs.now))))) }
-        ensures declares { OnOk result (Declares self.now.names.now place (wanted (scope_of self.now.names.now bindings.old) (with_prefix (map (λ (a : Label). a.name) (map (label_of self.now.names.now self.now.heap.now) attrs.now)))) bindings.old bindings.new) }
+        ensures text { OnOk result (out.new.items ≡ out.old.items ++ flat_map declaration_text (wanted (scope_of bindings.old) (with_prefix (map (λ (a : Label). a.name) (map (label_of self.now.names.now self.now.heap.now) attrs.now))))) }
+        ensures declares { OnOk result (Declares place (wanted (scope_of bindings.old) (with_prefix (map (λ (a : Label). a.name) (map (label_of self.now.names.now self.now.heap.now) attrs.now)))) bindings.old bindings.new) }
         ensures kept { Grew out.old.items out.new.items }
     {
         for row in attrs {
-            self.declare_prefix(place, row.name, bindings, out)?;
+            declare_prefix(place, self.names.name(row.name), bindings, out)?;
         }
         Ok(())
     }
@@ -149,20 +148,21 @@ impl Printer<'_> {
     // All that the element at `place` declares.
     fn push_declarations(
         &self,
-        place: usize,
+        place: u32,
         row: &Row,
         attrs: &[Row],
-        bindings: &mut Bindings,
+        bindings: &mut Bindings<'a>,
         out: &mut Vec<u8>,
     ) -> Result<(), NoMemory>
         requires name { row.now.name < length self.now.names.now }
+        requires value { row.now.val.at + row.now.val.len ≤ length self.now.heap.now }
         requires placed { ArePlaced self.now.names.now self.now.heap.now attrs.now }
-        requires named { AreNamed self.now.names.now bindings.old }
-        ensures text { OnOk result (out.new.items ≡ out.old.items ++ flat_map declaration_text (declarations (scope_of self.now.names.now bindings.old) (label_of self.now.names.now self.now.heap.now row.now) (map (label_of self.now.names.now self.now.heap.now) attrs.now))) }
-        ensures declares { OnOk result (Declares self.now.names.now place (declarations (scope_of self.now.names.now bindings.old) (label_of self.now.names.now self.now.heap.now row.now) (map (label_of self.now.names.now self.now.heap.now) attrs.now)) bindings.old bindings.new) }
+        ensures text { OnOk result (out.new.items ≡ out.old.items ++ flat_map declaration_text (declarations (scope_of bindings.old) (label_of self.now.names.now self.now.heap.now row.now) (map (label_of self.now.names.now self.now.heap.now) attrs.now))) }
+        ensures declares { OnOk result (Declares place (declarations (scope_of bindings.old) (label_of self.now.names.now self.now.heap.now row.now) (map (label_of self.now.names.now self.now.heap.now) attrs.now)) bindings.old bindings.new) }
         ensures kept { Grew out.old.items out.new.items }
     {
-        self.declare(place, row.name, bindings, out)?;
+        declare_own(place, self.heap.get(row.val), bindings, out)?;
+        declare_name(place, self.names.name(row.name), bindings, out)?;
         Ok(self.declare_prefixes(place, attrs, bindings, out)?)
     }
 
@@ -195,17 +195,17 @@ impl Printer<'_> {
     #[tactic(auto, using(crate::proofs::Growing::grew_twice))]
     fn push_start(
         &self,
-        place: usize,
+        place: u32,
         row: &Row,
         attrs: &[Row],
-        bindings: &mut Bindings,
+        bindings: &mut Bindings<'a>,
         out: &mut Vec<u8>,
     ) -> Result<(), NoMemory>
         requires name { row.now.name < length self.now.names.now }
+        requires value { row.now.val.at + row.now.val.len ≤ length self.now.heap.now }
         requires placed { ArePlaced self.now.names.now self.now.heap.now attrs.now }
-        requires named { AreNamed self.now.names.now bindings.old }
-        ensures text { OnOk result (out.new.items ≡ out.old.items ++ start_text (scope_of self.now.names.now bindings.old) (label_of self.now.names.now self.now.heap.now row.now) (map (label_of self.now.names.now self.now.heap.now) attrs.now)) }
-        ensures declares { OnOk result (Declares self.now.names.now place (declarations (scope_of self.now.names.now bindings.old) (label_of self.now.names.now self.now.heap.now row.now) (map (label_of self.now.names.now self.now.heap.now) attrs.now)) bindings.old bindings.new) }
+        ensures text { OnOk result (out.new.items ≡ out.old.items ++ start_text (scope_of bindings.old) (label_of self.now.names.now self.now.heap.now row.now) (map (label_of self.now.names.now self.now.heap.now) attrs.now)) }
+        ensures declares { OnOk result (Declares place (declarations (scope_of bindings.old) (label_of self.now.names.now self.now.heap.now row.now) (map (label_of self.now.names.now self.now.heap.now) attrs.now)) bindings.old bindings.new) }
         ensures kept { Grew out.old.items out.new.items }
     {
         push_byte(out, b'<')?;
@@ -247,17 +247,17 @@ impl Printer<'_> {
     #[tactic(auto, using(crate::proofs::Growing::grew_twice))]
     fn push_tag(
         &self,
-        place: usize,
+        place: u32,
         row: &Row,
         attrs: &[Row],
-        bindings: &mut Bindings,
+        bindings: &mut Bindings<'a>,
         out: &mut Vec<u8>,
     ) -> Result<(), NoMemory>
         requires name { row.now.name < length self.now.names.now }
+        requires value { row.now.val.at + row.now.val.len ≤ length self.now.heap.now }
         requires placed { ArePlaced self.now.names.now self.now.heap.now attrs.now }
-        requires named { AreNamed self.now.names.now bindings.old }
-        ensures text { OnOk result (out.new.items ≡ out.old.items ++ tag_text (scope_of self.now.names.now bindings.old) (label_of self.now.names.now self.now.heap.now row.now) (map (label_of self.now.names.now self.now.heap.now) attrs.now) (nat_lt row.now.asize row.now.size)) }
-        ensures declares { OnOk result (Declares self.now.names.now place (declarations (scope_of self.now.names.now bindings.old) (label_of self.now.names.now self.now.heap.now row.now) (map (label_of self.now.names.now self.now.heap.now) attrs.now)) bindings.old bindings.new) }
+        ensures text { OnOk result (out.new.items ≡ out.old.items ++ tag_text (scope_of bindings.old) (label_of self.now.names.now self.now.heap.now row.now) (map (label_of self.now.names.now self.now.heap.now) attrs.now) (nat_lt row.now.asize row.now.size)) }
+        ensures declares { OnOk result (Declares place (declarations (scope_of bindings.old) (label_of self.now.names.now self.now.heap.now row.now) (map (label_of self.now.names.now self.now.heap.now) attrs.now)) bindings.old bindings.new) }
         ensures kept { Grew out.old.items out.new.items }
     {
         self.push_start(place, row, attrs, bindings, out)?;
@@ -271,18 +271,17 @@ impl Printer<'_> {
     #[tactic(auto, using(crate::proofs::Growing::grew_none))]
     fn push_front(
         &self,
-        place: usize,
+        place: u32,
         row: &Row,
         attrs: &[Row],
-        bindings: &mut Bindings,
+        bindings: &mut Bindings<'a>,
         out: &mut Vec<u8>,
     ) -> Result<(), NoMemory>
         requires name { row.now.name < length self.now.names.now }
         requires value { row.now.val.at + row.now.val.len ≤ length self.now.heap.now }
         requires placed { ArePlaced self.now.names.now self.now.heap.now attrs.now }
-        requires named { AreNamed self.now.names.now bindings.old }
-        ensures text { OnOk result (out.new.items ≡ out.old.items ++ front_text (scope_of self.now.names.now bindings.old) (label_of self.now.names.now self.now.heap.now row.now) (map (label_of self.now.names.now self.now.heap.now) attrs.now) (nat_lt row.now.asize row.now.size)) }
-        ensures declares { OnOk result (Declares self.now.names.now place (declared (scope_of self.now.names.now bindings.old) (label_of self.now.names.now self.now.heap.now row.now) (map (label_of self.now.names.now self.now.heap.now) attrs.now)) bindings.old bindings.new) }
+        ensures text { OnOk result (out.new.items ≡ out.old.items ++ front_text (scope_of bindings.old) (label_of self.now.names.now self.now.heap.now row.now) (map (label_of self.now.names.now self.now.heap.now) attrs.now) (nat_lt row.now.asize row.now.size)) }
+        ensures declares { OnOk result (Declares place (declared (scope_of bindings.old) (label_of self.now.names.now self.now.heap.now row.now) (map (label_of self.now.names.now self.now.heap.now) attrs.now)) bindings.old bindings.new) }
         ensures kept { Grew out.old.items out.new.items }
     {
         match row.kind {
@@ -310,68 +309,82 @@ impl Printer<'_> {
         push_byte(out, b'>')
     }
 
-    // Ends each node that ends at `end` as the node at `last` does, the innermost first and none about the node at `top`.
-    // Answers whether that one is among them.
+    // Ends each node that ends where the row at `at` does, the innermost first and none about the node at `top`. Answers
+    // whether that one is among them.
     fn push_ends(
         &self,
-        top: usize,
-        last: usize,
-        end: usize,
-        bindings: &mut Bindings,
+        top: u32,
+        at: u32,
+        row: &Row,
+        parents: &mut Rows<'_>,
+        bindings: &mut Bindings<'a>,
         out: &mut Vec<u8>,
     ) -> Result<bool, NoMemory>
-        requires placed { ArePlaced self.now.names.now self.now.heap.now self.now.rows.now }
-        requires ended { (whole : List ℕ) × Ended self.now.names.now (lines_of self.now.names.now self.now.heap.now self.now.rows.now) top last end bindings.old out.old.items whole }
-        ensures text { IfOk result (λ all. (whole : List ℕ) → Ended self.now.names.now (lines_of self.now.names.now self.now.heap.now self.now.rows.now) top last end bindings.old out.old.items whole → Then self.now.names.now (lines_of self.now.names.now self.now.heap.now self.now.rows.now) top end all bindings.new out.new.items whole) }
+        requires few { length parents.old ≤ 2 ^ 24 }
+        requires placed { ArePlaced self.now.names.now self.now.heap.now parents.old }
+        requires row { row.now ≡ slice_index_or parents.old at row.now }
+        requires ended { (whole : List ℕ) × Ended (lines_of self.now.names.now self.now.heap.now parents.old) top at (at + row.now.size) bindings.old out.old.items whole }
+        ensures text { IfOk result (λ all. (whole : List ℕ) → Ended (lines_of self.now.names.now self.now.heap.now parents.old) top at (at + row.now.size) bindings.old out.old.items whole → Then (lines_of self.now.names.now self.now.heap.now parents.old) top (at + row.now.size) all bindings.new out.new.items whole) }
+        ensures rows { parents.new ≡ parents.old }
         ensures kept { Grew out.old.items out.new.items }
     {
-        let mut inner = last;
+        let end = at + row.size;
+        let mut inner = at;
+        let mut dist = row.dist;
         while inner != top {
-            inner -= self.rows[inner].dist as usize;
-            let row = &self.rows[inner];
-            if inner + row.size as usize != end {
+            inner -= dist;
+            let parent = parents.row(inner);
+            if inner + parent.size != end {
                 return Ok(false);
             }
-            self.push_end(row, out)?;
+            self.push_end(&parent, out)?;
             bindings.leave(inner);
+            dist = parent.dist;
         }
         Ok(true)
     }
 
-    // The node at `top`, in one walk over its rows.
-    fn push_node(&self, top: usize, out: &mut Vec<u8>) -> Result<(), NoMemory>
-        requires placed { ArePlaced self.now.names.now self.now.heap.now self.now.rows.now }
-        requires flat { IsFlat (lines_of self.now.names.now self.now.heap.now self.now.rows.now) }
-        requires within { top < length self.now.rows.now }
-        ensures text { OnOk result ((node : Node Label) → Contains (nodes (grove_of (lines_of self.now.names.now self.now.heap.now self.now.rows.now))) node → node.place ≡ top → out.new.items ≡ out.old.items ++ node_text node) }
+    // The node at `top`, in one walk over its rows. Parents are looked at by a reader of their own.
+    fn push_node(
+        &self,
+        top: u32,
+        rows: &mut Rows<'_>,
+        parents: &mut Rows<'_>,
+        out: &mut Vec<u8>,
+    ) -> Result<(), NoMemory>
+        requires few { length rows.old ≤ 2 ^ 24 }
+        requires same { parents.old ≡ rows.old }
+        requires trees { KeepsTrees (view_of rows.old self.now.names.now self.now.heap.now) }
+        requires within { top < length rows.old }
+        ensures text { OnOk result ((node : Node Label) → Contains (nodes (view_forest (view_of rows.old self.now.names.now self.now.heap.now))) node → node.place ≡ top → out.new.items ≡ out.old.items ++ node_text node) }
         ensures kept { Grew out.old.items out.new.items }
     {
         let mut bindings = Bindings::new(*out.allocator());
+        let mut attrs = Vec::new(*out.allocator());
         let mut at = top;
         loop {
-            let row = &self.rows[at];
-            let attrs = attributes(self.rows, at, row.asize);
-            self.push_front(at, row, attrs, &mut bindings, out)?;
-            if opens(row) {
-                at += row.asize as usize;
+            let row = rows.row(at);
+            rows.read(at + 1, at + row.asize, &mut attrs)?;
+            self.push_front(at, &row, &attrs, &mut bindings, out)?;
+            if opens(&row) {
+                at += row.asize;
                 continue;
             }
             bindings.leave(at);
-            let end = at + row.size as usize;
-            if self.push_ends(top, at, end, &mut bindings, out)? {
+            if self.push_ends(top, at, &row, parents, &mut bindings, out)? {
                 return Ok(());
             }
-            at = end;
+            at += row.size;
         }
     }
 }
 
 /// Appends the text of the node at `pre` as XML: an element with its attributes and all that is in it, or as an empty-element
 /// tag where nothing is; the content of a document, without its path; an attribute as `name="value"`. An element declares
-/// its prefix, also the empty one, and those of its attributes, each where what stands about it doesn't bind it so; about
-/// the node itself nothing is declared. In character data `&`, `<`, `>` and CR stand as references, in the value of an
-/// attribute also the quote, TAB and LF. Nothing is indented. After `NoMemory` a part of the text may stand behind what
-/// `out` had before.
+/// what it declares itself, in its order, then its prefix, also the empty one, and those of its attributes, each where what
+/// stands before doesn't bind it so; about the node itself nothing is declared. In character data `&`, `<`, `>` and CR stand
+/// as references, in the value of an attribute also the quote, TAB and LF. Nothing is indented. After `NoMemory` a part of the
+/// text may stand behind what `out` had before.
 pub fn print_node(
     table: &NodeTable,
     pool: &Pool<Row>,
@@ -380,12 +393,13 @@ pub fn print_node(
     pre: u32,
     out: &mut Vec<u8>,
 ) -> Result<(), NoMemory>
-    requires placed { ArePlaced names.now heap.now table.now }
-    requires flat { IsFlat (lines_of names.now heap.now table.now) }
-    requires within { pre < length table.now }
-    ensures text { OnOk result ((node : Node Label) → Contains (nodes (grove_of (lines_of names.now heap.now table.now))) node → node.place ≡ pre → out.new.items ≡ out.old.items ++ node_text node) }
+    requires held { IsIn pool.now table.now }
+    requires trees { KeepsTrees (view_of (rows_in pool.now table.now) names.now heap.now) }
+    requires within { pre < length (rows_in pool.now table.now) }
+    ensures text { OnOk result ((node : Node Label) → Contains (nodes (view_forest (view_of (rows_in pool.now table.now) names.now heap.now))) node → node.place ≡ pre → out.new.items ≡ out.old.items ++ node_text node) }
     ensures kept { Grew out.old.items out.new.items }
 {
-    let rows = table.rows(pool);
-    Printer { rows, names, heap }.push_node(pre as usize, out)
+    let mut rows = Rows::of(table, pool);
+    let mut parents = Rows::of(table, pool);
+    Printer { names, heap }.push_node(pre, &mut rows, &mut parents, out)
 }

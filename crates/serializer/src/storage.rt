@@ -1,11 +1,16 @@
 // The text of the rows of a table.
 ghost use Rattle.std.specs.Prelude.{◌≡◌, ◌+◌, ◌≤◌, ◌<◌, ◌++◌, [], length, OnOk, decimal};
-ghost use Rattle.tree_model.specs.Forest.{grove_of, IsFlat};
-ghost use Rattle.tree_model.specs.Rows.{line_of, lines_of, ArePlaced};
+ghost use Rattle.std.specs.List.{flat_map};
+ghost use Rattle.tree_model.specs.Declarations.{declarations_of};
+ghost use Rattle.tree_model.specs.Rows.{line_of};
 ghost use Rattle.tree_model.specs.Printed as printed;
+ghost use Rattle.node_table.specs.Tables.{rows_in, IsIn};
+ghost use Rattle.node_table.specs.Views.{view_of, view_forest, KeepsTrees};
 ghost use Rattle.serializer.specs.Growth.{Grew};
 
+use crate::declarations::{next_declaration, push_declaration};
 use crate::escape::{RowContent, push_byte, push_bytes, push_escaped};
+use crate::rows::Rows;
 use frame_pool::Pool;
 use itoa::Buffer;
 use name_pool::NamePool;
@@ -78,6 +83,29 @@ fn push_name(out: &mut Vec<u8>, name: &Name) -> Result<(), NoMemory>
     push_escaped::<RowContent>(out, name.local.as_str().as_bytes())
 }
 
+// The declarations whose text a value is, each behind a space.
+#[tactic(auto, using(crate::proofs::Growing::grew_none, crate::proofs::Growing::grew_twice))]
+fn push_declarations(out: &mut Vec<u8>, value: &[u8]) -> Result<(), NoMemory>
+    ensures text { OnOk result (out.new.items ≡ out.old.items ++ flat_map printed.binding_text (declarations_of value.now)) }
+    ensures kept { Grew out.old.items out.new.items }
+{
+    let mut rest = value;
+    while let Some((declaration, behind)) = next_declaration(rest) {
+        push_declaration::<RowContent>(out, declaration)?;
+        rest = behind;
+    }
+    Ok(())
+}
+
+#[tactic(auto, using(crate::proofs::Growing::grew_twice))]
+fn push_element(out: &mut Vec<u8>, name: &Name, value: &[u8]) -> Result<(), NoMemory>
+    ensures text { OnOk result (out.new.items ≡ out.old.items ++ printed.content_of Kind.Elem name.now value.now) }
+    ensures kept { Grew out.old.items out.new.items }
+{
+    push_name(out, name)?;
+    push_declarations(out, value)
+}
+
 #[tactic(auto, using(crate::proofs::Growing::grew_twice))]
 fn push_attribute(out: &mut Vec<u8>, name: &Name, value: &[u8]) -> Result<(), NoMemory>
     ensures text { OnOk result (out.new.items ≡ out.old.items ++ printed.content_of Kind.Attr name.now value.now) }
@@ -103,7 +131,7 @@ fn push_content(out: &mut Vec<u8>, kind: Kind, name: &Name, value: &[u8]) -> Res
     ensures kept { Grew out.old.items out.new.items }
 {
     match kind {
-        Kind::Elem => push_name(out, name),
+        Kind::Elem => push_element(out, name, value),
         Kind::Attr => push_attribute(out, name, value),
         Kind::Pi => push_instruction(out, name, value),
         Kind::Doc | Kind::Text | Kind::Comm => push_escaped::<RowContent>(out, value),
@@ -145,27 +173,24 @@ fn push_row(
 // The rows of a range, joined by LF.
 fn push_rows(
     out: &mut Vec<u8>,
-    rows: &[Row],
+    rows: &mut Rows<'_>,
     names: &NamePool,
     heap: &ValueHeap,
     from: u32,
     to: u32,
 ) -> Result<(), NoMemory>
-    requires placed { ArePlaced names.now heap.now rows.now }
-    requires flat { IsFlat (lines_of names.now heap.now rows.now) }
-    ensures text { OnOk result (out.new.items ≡ out.old.items ++ printed.range_text from to (grove_of (lines_of names.now heap.now rows.now))) }
+    requires { KeepsTrees (view_of rows.old names.now heap.now) }
+    ensures text { OnOk result (out.new.items ≡ out.old.items ++ printed.range_text from to (view_forest (view_of rows.old names.now heap.now))) }
     ensures kept { Grew out.old.items out.new.items }
 {
-    let end = rows.len().min(to as usize);
-    let start = end.min(from as usize);
-    let first = start as u64;
-    let mut pre = first;
-    for row in &rows[start..end] {
-        if pre != first {
+    let end = rows.len().min(to);
+    let start = end.min(from);
+    for pre in start..end {
+        if pre != start {
             push_byte(out, b'\n')?;
         }
-        push_row(out, pre, row, names, heap)?;
-        pre += 1;
+        let row = rows.row(pre);
+        push_row(out, u64::from(pre), &row, names, heap)?;
     }
     Ok(())
 }
@@ -183,10 +208,10 @@ pub fn print_storage(
     to: u32,
     out: &mut Vec<u8>,
 ) -> Result<(), NoMemory>
-    requires placed { ArePlaced names.now heap.now table.now }
-    requires flat { IsFlat (lines_of names.now heap.now table.now) }
-    ensures text { OnOk result (out.new.items ≡ out.old.items ++ printed.range_text from to (grove_of (lines_of names.now heap.now table.now))) }
+    requires held { IsIn pool.now table.now }
+    requires trees { KeepsTrees (view_of (rows_in pool.now table.now) names.now heap.now) }
+    ensures text { OnOk result (out.new.items ≡ out.old.items ++ printed.range_text from to (view_forest (view_of (rows_in pool.now table.now) names.now heap.now))) }
     ensures kept { Grew out.old.items out.new.items }
 {
-    push_rows(out, table.rows(pool), names, heap, from, to)
+    push_rows(out, &mut Rows::of(table, pool), names, heap, from, to)
 }

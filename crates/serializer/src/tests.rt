@@ -1,5 +1,7 @@
-ghost use Rattle.std.specs.Prelude.{◌≡◌, ◌<◌, ◌≤◌, ◌^◌, true, length, IfOk};
+ghost use Rattle.std.specs.Prelude.{◌≡◌, ◌<◌, ◌≤◌, ◌^◌, true, length, IfOk, IfSome};
 ghost use Rattle.tree_model.specs.Items.{is_atom};
+ghost use Rattle.node_table.specs.Tables.{rows_in, IsIn};
+ghost use Rattle.node_table.specs.Views.{view_of, KeepsTrees};
 
 use super::*;
 use frame_pool::Pool;
@@ -37,14 +39,54 @@ fn heap(alloc: Global, bytes: &[u8]) -> Result<ValueHeap, NoMemory> {
 }
 
 // A table of these rows.
-fn table(alloc: Global, rows: &[Row]) -> Result<NodeTable, NoMemory>
+fn table(pool: &mut Pool<Row>, alloc: Global, rows: &[Row]) -> Result<NodeTable, NoMemory>
     requires { length rows.now ≤ 2 ^ 24 }
-    ensures { IfOk result (λ table. table ≡ rows.now) }
+    ensures rows { IfOk result (λ table. rows_in pool.new table ≡ rows.now) }
+    ensures held { IfOk result (λ table. IsIn pool.new table) }
 {
     let mut table = NodeTable::new(alloc);
     let rows = rows.to_vec(alloc)?;
-    table.insert_documents(&mut Pool::new(), 0, rows)?;
+    table.insert_documents(pool, 0, rows)?;
     Ok(table)
+}
+
+// What stands in a buffer with these bytes once rows of a range are printed to it.
+fn print_range(
+    alloc: Global,
+    rows: &[Row],
+    names: &NamePool,
+    heap: &ValueHeap,
+    before: &[u8],
+    range: (u32, u32),
+) -> Result<Vec<u8>, NoMemory>
+    requires few { length rows.now ≤ 2 ^ 24 }
+    requires trees { KeepsTrees (view_of rows.now names.now heap.now) }
+{
+    let mut pool = Pool::new(alloc);
+    let table = table(&mut pool, alloc, rows)?;
+    let mut out = before.to_vec(alloc)?;
+    print_storage(&table, &pool, names, heap, range.0, range.1, &mut out)?;
+    Ok(out)
+}
+
+// The same once a node is printed.
+fn print_at(
+    alloc: Global,
+    rows: &[Row],
+    names: &NamePool,
+    heap: &ValueHeap,
+    before: &[u8],
+    pre: u32,
+) -> Result<Vec<u8>, NoMemory>
+    requires few { length rows.now ≤ 2 ^ 24 }
+    requires trees { KeepsTrees (view_of rows.now names.now heap.now) }
+    requires within { pre < length rows.now }
+{
+    let mut pool = Pool::new(alloc);
+    let table = table(&mut pool, alloc, rows)?;
+    let mut out = before.to_vec(alloc)?;
+    print_node(&table, &pool, names, heap, pre, &mut out)?;
+    Ok(out)
 }
 
 // What stands in a buffer with these bytes once the rows of a range are printed to it. The document `d.xml` has an
@@ -85,10 +127,7 @@ fn printed(rt: &HostRuntime, before: &[u8], from: u32, to: u32) -> Result<Vec<u8
     if names.len() != 3 || heap.mark() != 8 {
         return Err(Fail::from("other names or values"));
     }
-    let mut out = before.to_vec(rt.alloc())?;
-    let table = table(rt.alloc(), &rows)?;
-    print_storage(&table, &Pool::new(), &names, &heap, from, to, &mut out)?;
-    Ok(out)
+    Ok(print_range(rt.alloc(), &rows, &names, &heap, before, (from, to))?)
 }
 
 #[test]
@@ -205,10 +244,7 @@ fn xml(rt: &HostRuntime, before: &[u8], pre: u32) -> Result<Vec<u8>, Fail>
     if names.len() != 7 || heap.mark() != 27 {
         return Err(Fail::from("other names or values"));
     }
-    let mut out = before.to_vec(rt.alloc())?;
-    let table = table(rt.alloc(), &rows)?;
-    print_node(&table, &Pool::new(), &names, &heap, pre, &mut out)?;
-    Ok(out)
+    Ok(print_at(rt.alloc(), &rows, &names, &heap, before, pre)?)
 }
 
 #[test]
@@ -293,10 +329,7 @@ fn declared(rt: &HostRuntime, pre: u32) -> Result<Vec<u8>, Fail>
     if names.len() != 6 || heap.mark() != 1 {
         return Err(Fail::from("other names or values"));
     }
-    let mut out = Vec::new(rt.alloc());
-    let table = table(rt.alloc(), &rows)?;
-    print_node(&table, &Pool::new(), &names, &heap, pre, &mut out)?;
-    Ok(out)
+    Ok(print_at(rt.alloc(), &rows, &names, &heap, b"", pre)?)
 }
 
 #[test]
@@ -319,6 +352,112 @@ fn a_node_declares_what_it_needs_alone(rt: HostRuntime) -> Result<(), Fail> {
     assert_eq!(rt;
         declared(&rt, 5)?.as_slice(),
         b"<q:s xmlns:q=\"w\"/>".as_slice()
+    );
+    Ok(())
+}
+
+// The text of a node, or of all rows. The document has an element `p:r` that declares `p`, an unused `q` and a default. In it
+// stand an element `c` that takes the default back, with an element `p:e` of another namespace and one of the outer one, and
+// an element `f` with an attribute `p:a`, which declares an unused `z`.
+fn namespaces(rt: &HostRuntime, pre: Option<u32>) -> Result<Vec<u8>, Fail>
+    requires { IfSome pre (λ at. at < 7) }
+{
+    let rows = [
+        Row {
+            kind: Kind::Doc,
+            dist: 0,
+            size: 7,
+            ..LEAF
+        },
+        Row {
+            name: 1,
+            size: 6,
+            val: ValueRef { at: 0, len: 11 },
+            ..LEAF
+        },
+        Row {
+            name: 2,
+            size: 3,
+            val: ValueRef { at: 11, len: 2 },
+            ..LEAF
+        },
+        Row {
+            name: 3,
+            val: ValueRef { at: 13, len: 4 },
+            ..LEAF
+        },
+        Row {
+            name: 4,
+            dist: 2,
+            ..LEAF
+        },
+        Row {
+            name: 5,
+            dist: 4,
+            size: 2,
+            asize: 2,
+            val: ValueRef { at: 17, len: 4 },
+            ..LEAF
+        },
+        Row {
+            kind: Kind::Attr,
+            name: 6,
+            val: ValueRef { at: 21, len: 1 },
+            ..LEAF
+        },
+    ];
+    let names = pool(
+        rt.alloc(),
+        &[
+            ("", "", ""),
+            ("u", "p", "r"),
+            ("", "", "c"),
+            ("w", "p", "e"),
+            ("u", "p", "e"),
+            ("d", "", "f"),
+            ("u", "p", "a"),
+        ],
+    )?;
+    let heap = heap(rt.alloc(), b"p\0u\0q\0v\0\0d\0\0\0p\0w\0z\0y\0x")?;
+    if names.len() != 7 || heap.mark() != 22 {
+        return Err(Fail::from("other names or values"));
+    }
+    match pre {
+        Some(pre) => Ok(print_at(rt.alloc(), &rows, &names, &heap, b"", pre)?),
+        None => Ok(print_range(rt.alloc(), &rows, &names, &heap, b"", (0, 7))?),
+    }
+}
+
+#[test]
+fn an_element_keeps_its_declarations(rt: HostRuntime) -> Result<(), Fail> {
+    assert_eq!(rt;
+        namespaces(&rt, Some(0))?.as_slice(),
+        b"<p:r xmlns:p=\"u\" xmlns:q=\"v\" xmlns=\"d\"><c xmlns=\"\"><p:e xmlns:p=\"w\"/><p:e/></c><f xmlns:z=\"y\" p:a=\"x\"/></p:r>".as_slice()
+    );
+    assert_eq!(rt;
+        namespaces(&rt, None)?.as_slice(),
+        b"0 0 7 1 0 doc \n1 1 6 1 0 elem {u}p:r xmlns:p=\"u\" xmlns:q=\"v\" xmlns=\"d\"\n2 1 3 1 0 elem c xmlns=\"\"\n3 1 1 1 0 elem {w}p:e xmlns:p=\"w\"\n4 2 1 1 0 elem {u}p:e\n5 4 2 2 0 elem {d}f xmlns:z=\"y\"\n6 1 1 1 0 attr {u}p:a=\"x\"".as_slice()
+    );
+    Ok(())
+}
+
+#[test]
+fn a_node_alone_adds_what_its_names_want(rt: HostRuntime) -> Result<(), Fail> {
+    assert_eq!(rt;
+        namespaces(&rt, Some(2))?.as_slice(),
+        b"<c xmlns=\"\"><p:e xmlns:p=\"w\"/><p:e xmlns:p=\"u\"/></c>".as_slice()
+    );
+    assert_eq!(rt;
+        namespaces(&rt, Some(4))?.as_slice(),
+        b"<p:e xmlns:p=\"u\"/>".as_slice()
+    );
+    assert_eq!(rt;
+        namespaces(&rt, Some(5))?.as_slice(),
+        b"<f xmlns:z=\"y\" xmlns=\"d\" xmlns:p=\"u\" p:a=\"x\"/>".as_slice()
+    );
+    assert_eq!(rt;
+        namespaces(&rt, Some(6))?.as_slice(),
+        b"p:a=\"x\"".as_slice()
     );
     Ok(())
 }

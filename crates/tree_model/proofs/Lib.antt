@@ -7,5 +7,7 @@ pub mod XmlSoundWords
 pub mod XmlSoundScopes
 pub mod XmlSoundForests
 pub mod XmlSoundness
+pub mod Declared
+pub mod IdPlaces
 pub mod Tables
 pub mod Looseness

@@ -4,7 +4,7 @@ use Rattle.std.specs.List.{list_all}
 use Rattle.std.proofs.lemmas.Bool.{and_parts, and_from}
 use Rattle.tree_model.specs.Forest.{Forest, none, tree, walk}
 use Rattle.tree_model.specs.Labels.{Label}
-use Rattle.tree_model.specs.Sound.{is_good_node, is_good_label, is_loose_node, is_loose_label, are_chars, has_no_name, is_empty, fits, owns, bears, is_elem, is_attr, are_distinct_names, have_one_uri, prefixed_names, Kept, SoundIsLoose}
+use Rattle.tree_model.specs.Sound.{is_good_node, is_good_label, is_loose_node, is_loose_label, are_chars, has_chars, has_no_name, is_empty, fits, owns, bears, is_elem, is_attr, are_distinct_names, binds_well, Kept, SoundIsLoose}
 use Rattle.tree_model.specs.declared.row.Kind.{Kind}
 use Rattle.tree_model.specs.declared.row.Kind.TheVariants.{Doc, Elem, Text, Attr, Comm, Pi}
 use Rattle.tree_model.specs.declared.text.Name.{Name}
@@ -19,9 +19,9 @@ loose_node Pi name value h = h
 
 loose_label : (label : Label) → is_good_label label ≡ true → is_loose_label label ≡ true
 loose_label label h =
-    let one = and_parts (is_good_node label.kind label.name label.value && are_chars label.name.uri) (are_chars label.value) h in
+    let one = and_parts (is_good_node label.kind label.name label.value && are_chars label.name.uri) (has_chars label.kind label.value) h in
     let two = and_parts (is_good_node label.kind label.name label.value) (are_chars label.name.uri) one.0 in
-    and_from (is_loose_node label.kind label.name label.value && are_chars label.name.uri) (are_chars label.value)
+    and_from (is_loose_node label.kind label.name label.value && are_chars label.name.uri) (has_chars label.kind label.value)
     (and_from (is_loose_node label.kind label.name label.value) (are_chars label.name.uri) (loose_node label.kind label.name label.value two.0) two.1) one.1
 
 loose_labels : (labels : List Label) → list_all is_good_label labels ≡ true → list_all is_loose_label labels ≡ true
@@ -34,7 +34,7 @@ borne : (label : Label) (attrs : List Label) → owns label attrs ≡ true → b
 borne label [] h = refl
 borne label (a ∷ attrs) h =
     let names : Bool = are_distinct_names (map (λ (b : Label). b.name) (a ∷ attrs)) in
-    let prefixes : Bool = have_one_uri (prefixed_names label (a ∷ attrs)) in
+    let prefixes : Bool = binds_well label (a ∷ attrs) in
     (and_parts (is_elem label && list_all is_attr (a ∷ attrs)) names (and_parts (is_elem label && list_all is_attr (a ∷ attrs) && names) prefixes h).0).0
 
 kept_loosely : (f : Forest Label) → Kept fits owns f → Kept fits bears f

@@ -4,9 +4,10 @@ use Rattle.std.specs.Prelude.{filter}
 use Rattle.std.specs.List.{list_all}
 use Rattle.std.proofs.lemmas.Bool.{and_parts, and_from, or_left}
 use Rattle.std.proofs.lemmas.List.Folds.{list_all-append}
+use Rattle.tree_model.specs.Declarations.{Binding, declarations_of}
 use Rattle.tree_model.specs.Forest.{Forest, none, tree, walk, count, join}
 use Rattle.tree_model.specs.Labels.{Label, with_id, numbered_attrs, numbered}
-use Rattle.tree_model.specs.Sound.{is_empty, are_distinct_names, is_good_label, is_doc, is_elem, is_text, is_attr, fits, have_one_uri, owns, AllTops, Kept, begins_no_text, are_texts_apart}
+use Rattle.tree_model.specs.Sound.{is_empty, are_distinct_names, is_good_label, is_doc, is_elem, is_text, is_attr, fits, binding_of, are_distinct, have_one_uri, binds_well, owns, AllTops, Kept, begins_no_text, are_texts_apart}
 use Rattle.tree_model.specs.declared.text.Name.{Name}
 
 -- a node that may be a child
@@ -113,9 +114,11 @@ good_attrs_numbered n [] = refl
 good_attrs_numbered n (a ∷ attrs) = ap (λ t. is_good_label a && t) (good_attrs_numbered (suc n) attrs)
 
 owns_numbered : (m n : ℕ) (label : Label) (attrs : List Label) → owns (with_id m label) (numbered_attrs n attrs) ≡ owns label attrs
+unfolding binds_well
 owns_numbered m n label [] = refl
 owns_numbered m n label (a ∷ attrs) =
-    ap₂ (λ (each : Bool) (names : List Name). is_elem label && each && are_distinct_names names && have_one_uri (label.name ∷ filter (λ (name : Name). not (is_empty name.prefix)) names))
+    ap₂ (λ (each : Bool) (names : List Name). is_elem label && each && are_distinct_names names
+    && (are_distinct (map (λ (d : Binding). d.0) (declarations_of label.value)) && have_one_uri (declarations_of label.value ++ map binding_of (label.name ∷ filter (λ (name : Name). not (is_empty name.prefix)) names))))
     (attrs_numbered n (a ∷ attrs)) (names_numbered n (a ∷ attrs))
 
 tops_numbered : (test : Label → Bool) → ((m : ℕ) (label : Label) → test label ≡ true → test (with_id m label) ≡ true) → (n : ℕ) (f : Forest Label) → AllTops test f → AllTops test (numbered n f)

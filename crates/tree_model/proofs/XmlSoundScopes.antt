@@ -1,20 +1,23 @@
 -- What the scopes of a text without faults bind, and the names of its tags.
-use Rattle.std.proofs.Common.{◌≡◌, ℕ, Bool, true, false, cond, not, ◌&&◌, ◌||◌, List, [], ◌∷◌, ◌++◌, map, Some, None, refl, sym, ap, ◌∙◌, subst}
+use Rattle.std.proofs.Common.{◌≡◌, ℕ, Bool, true, false, cond, not, ◌&&◌, ◌||◌, List, [], ◌∷◌, ◌++◌, map, Some, None, refl, sym, ap, ap₂, ◌∙◌, subst, zero, suc, ◌==◌, append_assoc, arith, one-add}
 use Rattle.std.specs.Prelude.{⊤, codes, filter}
 use Rattle.std.specs.List.{list_all, list_any, flat_map}
 use Rattle.std.specs.Option.{is_none}
 use Rattle.std.specs.Str.{bytes_eq}
-use Rattle.std.proofs.lemmas.Bool.{and_parts, and_from, or_parts, or_from, or_left, or_right, true≢false, false≢true, not_from_false, false_from_ne_true}
+use Rattle.std.proofs.lemmas.Bool.{and_parts, and_from, or_parts, or_from, or_left, or_right, true≢false, false≢true, not_from_false, false_from_ne_true, not-true, cond-false, cond-true}
 use Rattle.std.proofs.lemmas.List.Folds.{list_any-append}
 use Rattle.std.proofs.lemmas.Slice.Eq.{bytes_eq-Decides}
+use Rattle.std.proofs.lemmas.Bool.Decides.{nat_tests}
+use Rattle.tree_model.specs.Declarations.{Binding, declarations_of, declarations_value}
 use Rattle.tree_model.specs.Labels.{Label}
-use Rattle.tree_model.specs.Sound.{is_empty, xml_uri, is_good_name, is_same_name, are_distinct_names, is_attr_name, is_good_label, is_elem, is_attr, prefixed_names, has_one_uri, have_one_uri, owns}
-use Rattle.tree_model.specs.XmlChars.{has_colon, before_colon, behind_colon, prefix_of, local_of, is_name_run, is_xml_ncname, is_xml_qname}
+use Rattle.tree_model.specs.Sound.{is_empty, xml_uri, is_good_name, is_same_name, are_distinct_names, is_attr_name, is_good_declaration, spells_declarations, is_good_label, is_elem, is_attr, binding_of, has_one_uri, have_one_uri, are_distinct, binds_well, owns}
+use Rattle.tree_model.specs.XmlChars.{has_colon, before_colon, behind_colon, prefix_of, local_of, is_name_byte, is_name_run, is_xml_char, is_xml_ncname, is_xml_qname}
 use Rattle.tree_model.specs.XmlSource.{Part, run, entity, decimal, hexadecimal, Attr}
-use Rattle.tree_model.specs.XmlGood.{IsValue, EachIsAttr}
-use Rattle.tree_model.specs.XmlMeaning.{value_in_attr, Pair, pair_of, Scope, uri_of, first_scope, is_declaration, declared_prefix, with_attrs, is_bad_binding, attr_uri, element_uri, or_empty, plain_attrs, attr_name, element_name, expanded, is_same_pair, is_pair_in, has_twice, has_bad_binding, has_unbound, is_bad_tag, attr_label, attr_labels, tag_label}
+use Rattle.tree_model.specs.XmlGood.{IsValue, EachIsAttr, is_in, are_new, names_of}
+use Rattle.tree_model.specs.XmlMeaning.{value_in_attr, Pair, pair_of, Scope, uri_of, first_scope, is_declaration, declared_prefix, with_attrs, is_bad_binding, attr_uri, element_uri, or_empty, plain_attrs, attr_name, element_name, expanded, is_same_pair, is_pair_in, has_twice, has_bad_binding, has_unbound, is_bad_tag, attr_label, attr_labels, kept_declarations, tag_label}
 use Rattle.tree_model.specs.declared.text.Name.{Name}
-use Rattle.tree_model.proofs.XmlUtf8.{IsTextOfChars, text_nil, text_append, text_ascii, text_spaced, text_entity, text_decimal, text_hexadecimal, are_chars_from}
+use Rattle.tree_model.proofs.Declared.{has_no_zero, HaveNoZero, declarations_back}
+use Rattle.tree_model.proofs.XmlUtf8.{chars_ascii, all_weaker, text_cut, text_cut_behind, IsTextOfChars, text_nil, text_append, text_ascii, text_spaced, text_entity, text_decimal, text_hexadecimal, are_chars_from}
 use Rattle.tree_model.proofs.XmlSoundTexts.{ArePartTexts, AreValueTexts}
 
 -- ---- scopes
@@ -234,29 +237,253 @@ distinct_names inside before (a ∷ attrs) h =
     let apart = or_parts (is_pair_in (expanded inside a.0) before) _ h in
     and_from _ _ (not_from_false _ (same_any inside a attrs ∙ not_behind (expanded inside a.0) [] before _ apart.1)) (distinct_names inside (expanded inside a.0 ∷ before) attrs apart.1)
 
+-- ---- the declarations of a tag
+
+some_byte : (c : ℕ) → (c ≡ 0 → ⊥) → not (c == 0) ≡ true
+some_byte c h = grind (arith, nat_tests)
+
+no_zero_byte : (c : ℕ) → is_name_byte c ≡ true → not (c == 0) ≡ true
+no_zero_byte zero h = absurd (false≢true h)
+no_zero_byte (suc c) h = some_byte (suc c) (λ e. absurd (omega (arith, e)))
+
+no_zero_name : (name : List ℕ) → is_xml_ncname name ≡ true → has_no_zero name ≡ true
+unfolding is_xml_ncname
+no_zero_name name h =
+    let run = and_parts _ _ (and_parts (is_name_run name) _ h).0 in
+    all_weaker is_name_byte (λ c. not (c == 0)) no_zero_byte name (and_parts _ _ run.0).1
+
+no_zero_text : (front bytes : List ℕ) → IsTextOfChars (front ++ bytes) → has_no_zero bytes ≡ true
+no_zero_text front [] t = refl
+no_zero_text front (c ∷ bytes) t =
+    and_from _ _ (some_byte c (text_cut_at c t)) (no_zero_text (front ++ c ∷ []) bytes (subst IsTextOfChars (sym (append_assoc front (c ∷ []) bytes)) t))
+  where
+    text_cut_at : (c : ℕ) → IsTextOfChars (front ++ c ∷ bytes) → (c ≡ 0) → ⊥
+    text_cut_at c t e =
+        let at : IsTextOfChars (front ++ 0 ∷ bytes) = subst (λ (d : ℕ). IsTextOfChars (front ++ d ∷ bytes)) e t in
+        let second = (text_cut front (0 ∷ bytes) refl at).second in
+        let one = (text_cut_behind [] 0 bytes (omega arith) second).first in
+        false≢true (ap (list_all is_xml_char) (sym (chars_ascii (0 ∷ []) refl)) ∙ one.chars)
+
+-- a prefix that a name declares is none or an NCName
+prefix_declared : (name : List ℕ) → is_xml_qname name ≡ true → (is_empty (declared_prefix name) || is_xml_ncname (declared_prefix name)) ≡ true
+unfolding declared_prefix
+prefix_declared name q = by (has_colon name) (name_parts name q).local
+  where
+    by : (colon : Bool) → is_xml_ncname (cond colon (behind_colon name) name) ≡ true → (is_empty (cond colon (behind_colon name) []) || is_xml_ncname (cond colon (behind_colon name) [])) ≡ true
+    by true h = or_right _ _ h
+    by false h = refl
+
+no_zero_prefix : (prefix : List ℕ) → (is_empty prefix || is_xml_ncname prefix) ≡ true → has_no_zero prefix ≡ true
+no_zero_prefix [] h = refl
+no_zero_prefix (c ∷ prefix) h = no_zero_name (c ∷ prefix) h
+
+-- whether a tag's attribute is a declaration that is kept
+abbrev is_kept : Pair → Bool
+is_kept a = is_declaration a.0 && not (bytes_eq (declared_prefix a.0) (codes "xml"))
+
+abbrev declared : Pair → Binding
+declared a = (declared_prefix a.0, a.1)
+
+good_declaration : (a : Pair) → IsPair a → is_bad_binding (declared_prefix a.0) a.1 ≡ false → bytes_eq (declared_prefix a.0) (codes "xml") ≡ false → is_good_declaration (declared a) ≡ true
+unfolding is_bad_binding
+good_declaration a pair h no_xml =
+    let parts = or_parts _ _ h in
+    let inner = or_parts _ _ parts.0 in
+    let first = or_parts _ _ inner.0 in
+    let other : bytes_eq a.1 xml_uri ≡ false = sym (cond-false _ _ _ no_xml) ∙ inner.1 in
+    and_from _ _ (and_from _ _ (and_from _ _ (and_from _ _ (and_from _ _ (and_from _ _ (prefix_declared a.0 pair.named) (not_from_false _ no_xml)) (not_from_false _ first.0))
+    (some_uri (is_empty (declared_prefix a.0)) (is_empty a.1) parts.1)) (not_from_false _ other)) (not_from_false _ first.1)) (are_chars_from a.1 pair.text)
+  where
+    some_uri : (no_prefix no_uri : Bool) → (not no_prefix && no_uri) ≡ false → (not no_uri || no_prefix) ≡ true
+    some_uri true true k = refl
+    some_uri true false k = refl
+    some_uri false true k = absurd (true≢false k)
+    some_uri false false k = refl
+
+-- what is kept of the declarations
+record AreKept (attrs : List Pair) : Type 0 where
+  no_zero : HaveNoZero (kept_declarations attrs)
+  good : list_all is_good_declaration (kept_declarations attrs) ≡ true
+
+are_kept : (attrs : List Pair) → ArePairs attrs → has_bad_binding attrs ≡ false → AreKept attrs
+unfolding kept_declarations
+are_kept [] pairs h = record { no_zero = tt; good = refl }
+are_kept (a ∷ attrs) pairs h =
+    let apart = or_parts _ _ h in
+    let both = by (is_declaration a.0) (bytes_eq (declared_prefix a.0) (codes "xml")) refl apart.0 (are_kept attrs pairs.1 apart.1) in
+    record { no_zero = both.0; good = both.1 }
+  where
+    by : (declares is_xml : Bool) → bytes_eq (declared_prefix a.0) (codes "xml") ≡ is_xml → (declares && is_bad_binding (declared_prefix a.0) a.1) ≡ false → AreKept attrs
+        → (HaveNoZero (cond (declares && not is_xml) (declared a ∷ kept_declarations attrs) (kept_declarations attrs)))
+        × (list_all is_good_declaration (cond (declares && not is_xml) (declared a ∷ kept_declarations attrs) (kept_declarations attrs)) ≡ true)
+    by true false e k more = (
+      (no_zero_prefix (declared_prefix a.0) (prefix_declared a.0 pairs.0.named), no_zero_text [] a.1 pairs.0.text, more.no_zero),
+      and_from _ _ (good_declaration a pairs.0 k e) more.good,
+    )
+    by true true e k more = (more.no_zero, more.good)
+    by false is_xml e k more = (more.no_zero, more.good)
+
+-- ---- names that are written apart
+
+none_behind : (x : List ℕ) (before names : List (List ℕ)) → is_in x before ≡ true → are_new before names ≡ true → list_any (bytes_eq x) names ≡ false
+none_behind x before [] i h = refl
+none_behind x before (name ∷ names) i h =
+    let p = and_parts (not (is_in name before)) (are_new (name ∷ before) names) h in
+    or_from _ _ (differs p.0) (none_behind x (name ∷ before) names (or_right _ _ i) p.1)
+  where
+    differs : not (is_in name before) ≡ true → bytes_eq x name ≡ false
+    differs k = false_from_ne_true _ (λ e. true≢false (sym (subst (λ (y : List ℕ). is_in y before ≡ true) ((bytes_eq-Decides x name).0 e) i) ∙ not-true _ k))
+
+pub new_distinct : (before names : List (List ℕ)) → are_new before names ≡ true → are_distinct names ≡ true
+new_distinct before [] h = refl
+new_distinct before (name ∷ names) h =
+    let p = and_parts (not (is_in name before)) (are_new (name ∷ before) names) h in
+    and_from _ _ (not_from_false _ (none_behind name (name ∷ before) names (or_left _ _ ((bytes_eq-Decides name name).1 refl)) p.1)) (new_distinct (name ∷ before) names p.1)
+
+is_colon : (c : ℕ) → (c == 58) ≡ true → c ≡ 58
+is_colon c e = grind (arith, nat_tests)
+
+split_case : (b : Bool) (c : ℕ) (name : List ℕ) → (c == 58) ≡ b → (has_colon name ≡ true → name ≡ before_colon name ++ 58 ∷ behind_colon name) → has_colon (c ∷ name) ≡ true
+    → c ∷ name ≡ before_colon (c ∷ name) ++ 58 ∷ behind_colon (c ∷ name)
+split_case true c name e more h = rw e (ap (λ (d : ℕ). d ∷ name) (is_colon c e))
+split_case false c name e more h = rw (e, one-add) (ap (λ (l : List ℕ). c ∷ l) (more (rw e at h)))
+
+split_at_colon : (name : List ℕ) → has_colon name ≡ true → name ≡ before_colon name ++ 58 ∷ behind_colon name
+split_at_colon [] h = absurd (false≢true h)
+split_at_colon (c ∷ name) h = split_case (c == 58) c name refl (split_at_colon name) h
+
+-- two declarations of one prefix are written alike
+same_declaration : (a b : List ℕ) → is_xml_qname a ≡ true → is_xml_qname b ≡ true → is_declaration a ≡ true → is_declaration b ≡ true → declared_prefix a ≡ declared_prefix b → a ≡ b
+unfolding is_declaration declared_prefix
+same_declaration a b qa qb da db e = by (has_colon a) (has_colon b) refl refl (name_parts a qa).local (name_parts b qb).local da db e
+  where
+    both : (x y : List ℕ) → bytes_eq x (codes "xmlns") ≡ true → bytes_eq y (codes "xmlns") ≡ true → x ≡ y
+    both x y h k = (bytes_eq-Decides x (codes "xmlns")).0 h ∙ sym ((bytes_eq-Decides y (codes "xmlns")).0 k)
+
+    apart : (name : List ℕ) → is_xml_ncname name ≡ true → name ≡ [] → ⊥
+    apart name h none = true≢false (sym (ap is_empty none) ∙ some_name name h)
+
+    by : (ca cb : Bool) → has_colon a ≡ ca → has_colon b ≡ cb → is_xml_ncname (cond ca (behind_colon a) a) ≡ true → is_xml_ncname (cond cb (behind_colon b) b) ≡ true
+        → cond ca (bytes_eq (before_colon a) (codes "xmlns")) (bytes_eq a (codes "xmlns")) ≡ true → cond cb (bytes_eq (before_colon b) (codes "xmlns")) (bytes_eq b (codes "xmlns")) ≡ true
+        → cond ca (behind_colon a) [] ≡ cond cb (behind_colon b) [] → a ≡ b
+    by true true ha hb la lb h k same =
+        split_at_colon a ha ∙ ap₂ (λ (x y : List ℕ). x ++ 58 ∷ y) (both (before_colon a) (before_colon b) h k) same ∙ sym (split_at_colon b hb)
+    by true false ha hb la lb h k same = absurd (apart (behind_colon a) la same)
+    by false true ha hb la lb h k same = absurd (apart (behind_colon b) lb (sym same))
+    by false false ha hb la lb h k same = both a b h k
+
+abbrev written : List Pair → List (List ℕ)
+written attrs = map (λ (a : Pair). a.0) attrs
+
+abbrev prefixes : List Binding → List (List ℕ)
+prefixes ds = map (λ (d : Binding). d.0) ds
+
+-- a prefix that a name declares, where the name isn't among others, is declared by none of them
+none_declares : (x : List ℕ) (attrs : List Pair) → is_xml_qname x ≡ true → is_declaration x ≡ true → ArePairs attrs → list_any (bytes_eq x) (written attrs) ≡ false
+    → list_any (λ (a : Pair). is_declaration a.0 && bytes_eq (declared_prefix a.0) (declared_prefix x)) attrs ≡ false
+none_declares x [] q d pairs h = refl
+none_declares x (a ∷ attrs) q d pairs h =
+    let apart = or_parts (bytes_eq x a.0) (list_any (bytes_eq x) (written attrs)) h in
+    or_from _ _ (false_from_ne_true _ (differs apart.0)) (none_declares x attrs q d pairs.1 apart.1)
+  where
+    differs : bytes_eq x a.0 ≡ false → (is_declaration a.0 && bytes_eq (declared_prefix a.0) (declared_prefix x)) ≡ true → ⊥
+    differs k both =
+        let p = and_parts (is_declaration a.0) (bytes_eq (declared_prefix a.0) (declared_prefix x)) both in
+        let same : a.0 ≡ x = same_declaration a.0 x pairs.0.named q p.0 d ((bytes_eq-Decides (declared_prefix a.0) (declared_prefix x)).0 p.1) in
+        true≢false (sym ((bytes_eq-Decides x a.0).1 (sym same)) ∙ k)
+
+-- no attribute declares the prefix
+abbrev DeclareNot : List ℕ → List Pair → Type 0
+DeclareNot prefix attrs = list_any (λ (a : Pair). is_declaration a.0 && bytes_eq (declared_prefix a.0) prefix) attrs ≡ false
+
+none_kept : (prefix : List ℕ) (attrs : List Pair) → DeclareNot prefix attrs → list_any (bytes_eq prefix) (prefixes (kept_declarations attrs)) ≡ false
+unfolding kept_declarations
+none_kept prefix [] h = refl
+none_kept prefix (a ∷ attrs) h =
+    let apart = or_parts _ _ h in
+    by (is_declaration a.0) (bytes_eq (declared_prefix a.0) (codes "xml")) apart.0 (none_kept prefix attrs apart.1)
+  where
+    swapped : (x y : List ℕ) → bytes_eq x y ≡ false → bytes_eq y x ≡ false
+    swapped x y k = false_from_ne_true _ (λ e. true≢false (sym ((bytes_eq-Decides x y).1 (sym ((bytes_eq-Decides y x).0 e))) ∙ k))
+
+    by : (declares is_xml : Bool) → (declares && bytes_eq (declared_prefix a.0) prefix) ≡ false → list_any (bytes_eq prefix) (prefixes (kept_declarations attrs)) ≡ false
+        → list_any (bytes_eq prefix) (prefixes (cond (declares && not is_xml) (declared a ∷ kept_declarations attrs) (kept_declarations attrs))) ≡ false
+    by true false k more = or_from _ _ (swapped (declared_prefix a.0) prefix k) more
+    by true true k more = more
+    by false is_xml k more = more
+
+kept_distinct : (attrs : List Pair) → ArePairs attrs → are_distinct (written attrs) ≡ true → are_distinct (prefixes (kept_declarations attrs)) ≡ true
+unfolding kept_declarations
+kept_distinct [] pairs h = refl
+kept_distinct (a ∷ attrs) pairs h =
+    let p = and_parts (not (list_any (bytes_eq a.0) (written attrs))) (are_distinct (written attrs)) h in
+    by (is_declaration a.0) (bytes_eq (declared_prefix a.0) (codes "xml")) refl (not-true _ p.0) (kept_distinct attrs pairs.1 p.1)
+  where
+    by : (declares is_xml : Bool) → is_declaration a.0 ≡ declares → list_any (bytes_eq a.0) (written attrs) ≡ false → are_distinct (prefixes (kept_declarations attrs)) ≡ true
+        → are_distinct (prefixes (cond (declares && not is_xml) (declared a ∷ kept_declarations attrs) (kept_declarations attrs))) ≡ true
+    by true false d k more = and_from _ _ (not_from_false _ (none_kept (declared_prefix a.0) attrs (none_declares a.0 attrs pairs.0.named d pairs.1 k))) more
+    by true true d k more = more
+    by false is_xml d k more = more
+
 -- ---- one uri for each prefix
 
--- the uri of the name is that of its prefix in the scope
-abbrev Follows : Scope → Name → Type 0
-Follows scope name = name.uri ≡ or_empty (uri_of name.prefix scope)
+-- the uri is that of the prefix in the scope
+abbrev Follows : Scope → Binding → Type 0
+Follows scope binding = binding.1 ≡ or_empty (uri_of binding.0 scope)
 
-abbrev EachFollows : Scope → List Name → Type 0
+abbrev EachFollows : Scope → List Binding → Type 0
 EachFollows scope [] = ⊤
-EachFollows scope (name ∷ names) = Follows scope name × EachFollows scope names
+EachFollows scope (binding ∷ bindings) = Follows scope binding × EachFollows scope bindings
 
-one_uri_with : (scope : Scope) (a : Name) (names : List Name) → Follows scope a → EachFollows scope names → list_all (has_one_uri a) names ≡ true
+all_follow : (scope : Scope) (xs ys : List Binding) → EachFollows scope xs → EachFollows scope ys → EachFollows scope (xs ++ ys)
+all_follow scope [] ys h k = k
+all_follow scope (x ∷ xs) ys h k = (h.0, all_follow scope xs ys h.1 k)
+
+one_uri_with : (scope : Scope) (a : Binding) (bindings : List Binding) → Follows scope a → EachFollows scope bindings → list_all (has_one_uri a) bindings ≡ true
 one_uri_with scope a [] f h = refl
-one_uri_with scope a (b ∷ names) f h = and_from _ _ (by (bytes_eq a.prefix b.prefix) refl) (one_uri_with scope a names f h.1)
+one_uri_with scope a (b ∷ bindings) f h = and_from _ _ (by (bytes_eq a.0 b.0) refl) (one_uri_with scope a bindings f h.1)
   where
-    by : (same : Bool) → bytes_eq a.prefix b.prefix ≡ same → (not same || bytes_eq a.uri b.uri) ≡ true
-    by true e = (bytes_eq-Decides a.uri b.uri).1 (f ∙ ap (λ (p : List ℕ). or_empty (uri_of p scope)) ((bytes_eq-Decides a.prefix b.prefix).0 e) ∙ sym h.0)
+    by : (same : Bool) → bytes_eq a.0 b.0 ≡ same → (not same || bytes_eq a.1 b.1) ≡ true
+    by true e = (bytes_eq-Decides a.1 b.1).1 (f ∙ ap (λ (p : List ℕ). or_empty (uri_of p scope)) ((bytes_eq-Decides a.0 b.0).0 e) ∙ sym h.0)
     by false e = refl
 
-one_uri : (scope : Scope) (names : List Name) → EachFollows scope names → have_one_uri names ≡ true
+one_uri : (scope : Scope) (bindings : List Binding) → EachFollows scope bindings → have_one_uri bindings ≡ true
 one_uri scope [] h = refl
-one_uri scope (name ∷ names) h = and_from _ _ (one_uri_with scope name names h.0 h.1) (one_uri scope names h.1)
+one_uri scope (binding ∷ bindings) h = and_from _ _ (one_uri_with scope binding bindings h.0 h.1) (one_uri scope bindings h.1)
 
-element_follows : (inside : Scope) (name : List ℕ) → is_none (element_uri inside name) ≡ false → Follows inside (element_name inside name)
+-- a prefix that a tag doesn't declare stands for what it stood for
+undeclared : (prefix : List ℕ) (attrs : List Pair) (scope : Scope) → DeclareNot prefix attrs → uri_of prefix (with_attrs attrs scope) ≡ uri_of prefix scope
+unfolding with_attrs
+undeclared prefix [] scope h = refl
+undeclared prefix (a ∷ attrs) scope h =
+    let apart = or_parts _ _ h in
+    by (is_declaration a.0) apart.0 (undeclared prefix attrs ((declared_prefix a.0, a.1) ∷ scope) apart.1) (undeclared prefix attrs scope apart.1)
+  where
+    by : (declares : Bool) → (declares && bytes_eq (declared_prefix a.0) prefix) ≡ false → uri_of prefix (with_attrs attrs ((declared_prefix a.0, a.1) ∷ scope)) ≡ uri_of prefix ((declared_prefix a.0, a.1) ∷ scope)
+        → uri_of prefix (with_attrs attrs scope) ≡ uri_of prefix scope → uri_of prefix (cond declares (with_attrs attrs ((declared_prefix a.0, a.1) ∷ scope)) (with_attrs attrs scope)) ≡ uri_of prefix scope
+    by true k with_it without = with_it ∙ cond-false _ _ _ k
+    by false k with_it without = without
+
+kept_follow : (attrs : List Pair) (scope : Scope) → ArePairs attrs → are_distinct (written attrs) ≡ true → EachFollows (with_attrs attrs scope) (kept_declarations attrs)
+unfolding with_attrs kept_declarations
+kept_follow [] scope pairs h = tt
+kept_follow (a ∷ attrs) scope pairs h =
+    let p = and_parts (not (list_any (bytes_eq a.0) (written attrs))) (are_distinct (written attrs)) h in
+    by (is_declaration a.0) (bytes_eq (declared_prefix a.0) (codes "xml")) refl (not-true _ p.0) (kept_follow attrs ((declared_prefix a.0, a.1) ∷ scope) pairs.1 p.1) (kept_follow attrs scope pairs.1 p.1)
+  where
+    own : is_declaration a.0 ≡ true → list_any (bytes_eq a.0) (written attrs) ≡ false → a.1 ≡ or_empty (uri_of (declared_prefix a.0) (with_attrs attrs ((declared_prefix a.0, a.1) ∷ scope)))
+    own d k =
+        sym (ap or_empty (undeclared (declared_prefix a.0) attrs ((declared_prefix a.0, a.1) ∷ scope) (none_declares a.0 attrs pairs.0.named d pairs.1 k)
+        ∙ cond-true _ _ _ ((bytes_eq-Decides (declared_prefix a.0) (declared_prefix a.0)).1 refl)))
+
+    by : (declares is_xml : Bool) → is_declaration a.0 ≡ declares → list_any (bytes_eq a.0) (written attrs) ≡ false
+        → EachFollows (with_attrs attrs ((declared_prefix a.0, a.1) ∷ scope)) (kept_declarations attrs) → EachFollows (with_attrs attrs scope) (kept_declarations attrs)
+        → EachFollows (cond declares (with_attrs attrs ((declared_prefix a.0, a.1) ∷ scope)) (with_attrs attrs scope)) (cond (declares && not is_xml) (declared a ∷ kept_declarations attrs) (kept_declarations attrs))
+    by true false d k with_it without = (own d k, with_it)
+    by true true d k with_it without = with_it
+    by false is_xml d k with_it without = without
+
+element_follows : (inside : Scope) (name : List ℕ) → is_none (element_uri inside name) ≡ false → Follows inside (binding_of (element_name inside name))
 unfolding element_uri
 element_follows inside name h = by (bytes_eq (prefix_of name) (codes "xmlns")) h
   where
@@ -264,7 +491,7 @@ element_follows inside name h = by (bytes_eq (prefix_of name) (codes "xmlns")) h
     by true k = absurd (true≢false k)
     by false k = refl
 
-attr_follows : (inside : Scope) (name : List ℕ) → is_empty (prefix_of name) ≡ false → Follows inside (attr_name inside name)
+attr_follows : (inside : Scope) (name : List ℕ) → is_empty (prefix_of name) ≡ false → Follows inside (binding_of (attr_name inside name))
 unfolding attr_uri
 attr_follows inside name h = by (has_colon name) h
   where
@@ -272,12 +499,12 @@ attr_follows inside name h = by (has_colon name) h
     by true k = refl
     by false k = absurd (true≢false k)
 
-attrs_follow : (inside : Scope) (attrs : List Pair) → EachFollows inside (prefixed inside attrs)
+attrs_follow : (inside : Scope) (attrs : List Pair) → EachFollows inside (map binding_of (prefixed inside attrs))
 attrs_follow inside [] = tt
 attrs_follow inside (a ∷ attrs) = by (is_empty (prefix_of a.0)) refl (attrs_follow inside attrs)
   where
-    by : (no_prefix : Bool) → is_empty (prefix_of a.0) ≡ no_prefix → EachFollows inside (prefixed inside attrs)
-        → EachFollows inside (cond (not no_prefix) (attr_name inside a.0 ∷ prefixed inside attrs) (prefixed inside attrs))
+    by : (no_prefix : Bool) → is_empty (prefix_of a.0) ≡ no_prefix → EachFollows inside (map binding_of (prefixed inside attrs))
+        → EachFollows inside (map binding_of (cond (not no_prefix) (attr_name inside a.0 ∷ prefixed inside attrs) (prefixed inside attrs)))
     by true e more = more
     by false e more = (attr_follows inside a.0 e, more)
 
@@ -288,22 +515,41 @@ are_attrs inside [] = refl
 are_attrs inside (a ∷ attrs) = are_attrs inside attrs
 
 -- an element may have the attributes where the rules on them hold
-owns_attrs : (label : Label) (attrs : List Label) → is_elem label ≡ true → list_all is_attr attrs ≡ true → are_distinct_names (map (λ (b : Label). b.name) attrs) ≡ true → have_one_uri (prefixed_names label attrs) ≡ true → owns label attrs ≡ true
-owns_attrs label [] e a d u = refl
+owns_attrs : (label : Label) (attrs : List Label) → is_elem label ≡ true → list_all is_attr attrs ≡ true → are_distinct_names (map (λ (b : Label). b.name) attrs) ≡ true → binds_well label attrs ≡ true → owns label attrs ≡ true
+owns_attrs label [] e a d u = or_right _ _ u
 owns_attrs label (b ∷ attrs) e a d u = and_from _ _ (and_from _ _ (and_from _ _ e a) d) u
 
-pub tag_owns : (inside : Scope) (name : List ℕ) (attrs : List Pair) → is_bad_tag inside name attrs ≡ false → owns (tag_label inside name) (attr_labels inside attrs) ≡ true
-tag_owns inside name attrs h =
+tag_binds_well : (scope : Scope) (name : List ℕ) (attrs : List Pair) → ArePairs attrs → are_distinct (written attrs) ≡ true → IsGoodTag (with_attrs attrs scope) name attrs
+    → binds_well (tag_label (with_attrs attrs scope) name attrs) (attr_labels (with_attrs attrs scope) attrs) ≡ true
+unfolding binds_well
+tag_binds_well scope name attrs pairs differ tag =
+    let inside : Scope = with_attrs attrs scope in
+    let back : declarations_of (declarations_value (kept_declarations attrs)) ≡ kept_declarations attrs = declarations_back (kept_declarations attrs) (are_kept attrs pairs tag.bindings).no_zero in
+    let named : List Binding = map binding_of (element_name inside name ∷ prefixed inside (plain_attrs attrs)) in
+    and_from _ _ (ap (λ (ds : List Binding). are_distinct (prefixes ds)) back ∙ kept_distinct attrs pairs differ)
+    (ap (λ (ds : List Binding). have_one_uri (ds ++ named)) back
+    ∙ one_uri inside (kept_declarations attrs ++ named) (all_follow inside (kept_declarations attrs) named (kept_follow attrs scope pairs differ) (element_follows inside name tag.bound, attrs_follow inside (plain_attrs attrs))))
+
+pub tag_owns : (scope : Scope) (name : List ℕ) (attrs : List Pair) → ArePairs attrs → are_distinct (written attrs) ≡ true → is_bad_tag (with_attrs attrs scope) name attrs ≡ false
+    → owns (tag_label (with_attrs attrs scope) name attrs) (attr_labels (with_attrs attrs scope) attrs) ≡ true
+tag_owns scope name attrs pairs differ h =
+    let inside : Scope = with_attrs attrs scope in
     let tag = good_tag inside name attrs h in
     let plain : List Pair = plain_attrs attrs in
-    owns_attrs (tag_label inside name) (attr_labels inside attrs) refl (are_attrs inside plain) (distinct_names inside [] plain tag.differ)
-    (one_uri inside (prefixed_names (tag_label inside name) (attr_labels inside attrs)) (element_follows inside name tag.bound, attrs_follow inside plain))
+    owns_attrs (tag_label inside name attrs) (attr_labels inside attrs) refl (are_attrs inside plain) (distinct_names inside [] plain tag.differ) (tag_binds_well scope name attrs pairs differ tag)
 
 -- the names and values of a tag are good, and so is the scope inside it
 pub record IsTagSound (scope : Scope) (name : List ℕ) (attrs : List Pair) : Type 0 where
   pub inside_good : IsGoodScope (with_attrs attrs scope)
-  pub label_good : is_good_label (tag_label (with_attrs attrs scope) name) ≡ true
+  pub label_good : is_good_label (tag_label (with_attrs attrs scope) name attrs) ≡ true
   pub attrs_good : list_all is_good_label (attr_labels (with_attrs attrs scope) attrs) ≡ true
+
+tag_spells : (attrs : List Pair) → AreKept attrs → spells_declarations (declarations_value (kept_declarations attrs)) ≡ true
+unfolding spells_declarations
+tag_spells attrs kept =
+    let back = declarations_back (kept_declarations attrs) kept.no_zero in
+    let value : List ℕ = declarations_value (kept_declarations attrs) in
+    and_from _ _ ((bytes_eq-Decides (declarations_value (declarations_of value)) value).1 (ap declarations_value back)) (ap (list_all is_good_declaration) back ∙ kept.good)
 
 pub tag_sound : (scope : Scope) (name : List ℕ) (attrs : List Pair) → is_xml_qname name ≡ true → ArePairs attrs → IsGoodScope scope → is_bad_tag (with_attrs attrs scope) name attrs ≡ false → IsTagSound scope name attrs
 tag_sound scope name attrs q pairs g h =
@@ -312,6 +558,14 @@ tag_sound scope name attrs q pairs g h =
     let named = element_named (with_attrs attrs scope) name q inside tag.bound in
     record {
       inside_good = inside;
-      label_good = and_from _ _ (and_from _ _ (and_from _ _ named.good refl) (are_chars_from _ named.uri_text)) (are_chars_from [] text_nil);
+      label_good = and_from _ _ (and_from _ _ (and_from _ _ named.good (tag_spells attrs (are_kept attrs pairs tag.bindings))) (are_chars_from _ named.uri_text)) refl;
       attrs_good = good_attr_labels (with_attrs attrs scope) (plain_attrs attrs) inside (are_plain attrs pairs) tag.all_bound;
     }
+
+-- the names of written attributes differ
+pub written_differ : (attrs : List Attr) → are_new [] (names_of attrs) ≡ true → are_distinct (written (map pair_of attrs)) ≡ true
+written_differ attrs h = ap are_distinct (same attrs) ∙ new_distinct [] (names_of attrs) h
+  where
+    same : (attrs : List Attr) → written (map pair_of attrs) ≡ names_of attrs
+    same [] = refl
+    same (a ∷ attrs) = ap (λ (names : List (List ℕ)). a.name ∷ names) (same attrs)

@@ -16,7 +16,7 @@ use Rattle.tree_model.proofs.Numbering.{count-numbered, numbered_once, numbered_
 use Rattle.tree_model.proofs.XmlUtf8.{IsTextOfChars, text_nil, text_append, text_line_ends, text_entity, text_decimal, text_hexadecimal, are_chars_from}
 use Rattle.tree_model.proofs.XmlSoundTexts.{IsPartText, HasTexts, path_chars, source_texts}
 use Rattle.tree_model.proofs.XmlSoundWords.{no_end_of_pi, no_end_of_comment}
-use Rattle.tree_model.proofs.XmlSoundScopes.{IsGoodScope, first_scope_good, are_pairs, tag_owns, tag_sound}
+use Rattle.tree_model.proofs.XmlSoundScopes.{IsGoodScope, first_scope_good, are_pairs, tag_owns, written_differ, tag_sound}
 use Rattle.tree_model.proofs.XmlSoundForests.{IsSoundForest, IsSoundNode, sound_none, sound_element, sound_leaf, sound_joined, sound_numbered, tops_fit}
 
 -- ---- tags without faults
@@ -124,19 +124,19 @@ content_sound strip scope gathered (element name attrs gap inner last more) h t 
     let pairs : List Pair = map pair_of attrs in
     let inside : Scope = with_attrs pairs scope in
     let tag = tag_sound scope name pairs h.0.named (are_pairs attrs h.0.each t.0) s f.0 in
-    let node : IsSoundNode (tag_label inside name) (attr_labels inside pairs) = record { child = refl; owner = tag_owns inside name pairs f.0; good = tag.label_good; attrs_good = tag.attrs_good } in
+    let node : IsSoundNode (tag_label inside name pairs) (attr_labels inside pairs) = record { child = refl; owner = tag_owns scope name pairs (are_pairs attrs h.0.each t.0) (written_differ attrs h.0.differ) f.0; good = tag.label_good; attrs_good = tag.attrs_good } in
     let kids = content_sound strip inside [] inner h.1 t.1 f.1 tag.inside_good text_nil in
     let rest = content_sound strip scope [] more h.3 t.2 f.2 s text_nil in
-    sound_gathered strip gathered (tree (tag_label inside name) (attr_labels inside pairs) (content_trees strip inside [] inner) (content_trees strip scope [] more)) v refl
-    (sound_element (tag_label inside name) (attr_labels inside pairs) (content_trees strip inside [] inner) (content_trees strip scope [] more) refl refl node kids rest)
+    sound_gathered strip gathered (tree (tag_label inside name pairs) (attr_labels inside pairs) (content_trees strip inside [] inner) (content_trees strip scope [] more)) v refl
+    (sound_element (tag_label inside name pairs) (attr_labels inside pairs) (content_trees strip inside [] inner) (content_trees strip scope [] more) refl refl node kids rest)
 content_sound strip scope gathered (empty name attrs gap more) h t f s v =
     let pairs : List Pair = map pair_of attrs in
     let inside : Scope = with_attrs pairs scope in
     let tag = tag_sound scope name pairs h.0.named (are_pairs attrs h.0.each t.0) s f.0 in
-    let node : IsSoundNode (tag_label inside name) (attr_labels inside pairs) = record { child = refl; owner = tag_owns inside name pairs f.0; good = tag.label_good; attrs_good = tag.attrs_good } in
+    let node : IsSoundNode (tag_label inside name pairs) (attr_labels inside pairs) = record { child = refl; owner = tag_owns scope name pairs (are_pairs attrs h.0.each t.0) (written_differ attrs h.0.differ) f.0; good = tag.label_good; attrs_good = tag.attrs_good } in
     let rest = content_sound strip scope [] more h.1 t.1 f.1 s text_nil in
-    sound_gathered strip gathered (tree (tag_label inside name) (attr_labels inside pairs) none (content_trees strip scope [] more)) v refl
-    (sound_element (tag_label inside name) (attr_labels inside pairs) none (content_trees strip scope [] more) refl refl node sound_none rest)
+    sound_gathered strip gathered (tree (tag_label inside name pairs) (attr_labels inside pairs) none (content_trees strip scope [] more)) v refl
+    (sound_element (tag_label inside name pairs) (attr_labels inside pairs) none (content_trees strip scope [] more) refl refl node sound_none rest)
 content_sound strip scope gathered (part p more) h t f s v =
     content_sound strip scope (gathered ++ value_in_text p) more h.2 t.1 f s (text_append gathered (value_in_text p) v (data_text p h.0 t.0))
 content_sound strip scope gathered (cdata bytes more) h t f s v =

@@ -2,10 +2,10 @@
 use Rattle.std.specs.Prelude.{ℕ, suc, ◌+◌, List, [], ◌∷◌, length}
 use Rattle.tree_model.specs.Forest.{Forest, none, tree, count}
 use Rattle.tree_model.specs.declared.row.Kind.{Kind}
-use Rattle.tree_model.specs.declared.row.Kind.TheVariants.{Doc, Elem, Text}
+use Rattle.tree_model.specs.declared.row.Kind.TheVariants.{Doc, Text}
 use Rattle.tree_model.specs.declared.text.Name.{Name}
 
--- a document has its path as value, an element has an empty one
+-- a document has its path as value, an element the text of its namespace declarations
 pub record Label : Type 0 where
   pub kind : Kind
   pub id : ℕ
@@ -19,9 +19,6 @@ local_name local = record { uri = []; prefix = []; local = local }
 -- labels whose ids are not given yet
 abbrev pub doc_label : List ℕ → Label
 doc_label path = record { kind = Doc; id = 0; name = local_name []; value = path }
-
-abbrev pub elem_label : List ℕ → Label
-elem_label name = record { kind = Elem; id = 0; name = local_name name; value = [] }
 
 abbrev pub text_label : List ℕ → Label
 text_label value = record { kind = Text; id = 0; name = local_name []; value = value }

@@ -1,12 +1,14 @@
 -- Documents as trees, as rows of a table and as text.
 pub mod Forest
 pub mod Trees
+pub mod Declarations
 pub mod Labels
 pub mod Rows
 pub mod Printed
 pub mod Sound
 pub mod Nodes
 pub mod Axes
+pub mod Ids
 pub mod Outcomes
 pub mod Numbers
 pub mod Items

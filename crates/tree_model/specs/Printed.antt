@@ -2,6 +2,7 @@
 use Rattle.std.specs.Prelude.{ℕ, suc, ◌-◌, ◌==◌, List, [], ◌∷◌, ◌++◌, map, take, drop, codes, Option, Some, None, if◌then◌else◌}
 use Rattle.std.specs.Fmt.{decimal}
 use Rattle.std.specs.List.{flat_map, join_with_byte}
+use Rattle.tree_model.specs.Declarations.{Binding, declarations_of, declared_name}
 use Rattle.tree_model.specs.Forest.{Forest, Line, flatten, count, top_count}
 use Rattle.tree_model.specs.Labels.{Label}
 use Rattle.tree_model.specs.States.{Base}
@@ -33,9 +34,13 @@ between opening (c ∷ bytes) closing = opening ++ (escaped (c ∷ bytes) ++ clo
 unfoldable pub name_text : Name → List ℕ
 name_text name = between (codes "{") name.uri (codes "}") ++ (between [] name.prefix (codes ":") ++ escaped name.local)
 
+-- a declaration behind a space
+abbrev pub binding_text : Binding → List ℕ
+binding_text d = 32 ∷ (declared_name d.0 ++ (codes "=\"" ++ (escaped d.1 ++ codes "\"")))
+
 abbrev pub content_of : Kind → Name → List ℕ → List ℕ
 content_of Doc name value = escaped value
-content_of Elem name value = name_text name
+content_of Elem name value = name_text name ++ flat_map binding_text (declarations_of value)
 content_of Text name value = escaped value
 content_of Attr name value = name_text name ++ (codes "=\"" ++ (escaped value ++ codes "\""))
 content_of Comm name value = escaped value

@@ -6,7 +6,8 @@ use Rattle.tree_model.specs.Labels.{Label, numbered, with_path}
 use Rattle.tree_model.specs.Sound.{AllTops, IsSound, is_elem, is_text}
 use Rattle.tree_model.specs.XmlChars.{is_space, first_is}
 use Rattle.tree_model.specs.XmlReads.{ReadsXml, as_tree}
-use Rattle.tree_model.specs.Printing.{documents_text}
+use Rattle.tree_model.specs.Printing.{added, scope_in, documents_text}
+use Rattle.tree_model.specs.XmlMeaning.{Scope, first_scope}
 use Rattle.tree_model.specs.declared.row.Kind.{Kind}
 use Rattle.tree_model.specs.declared.row.Kind.TheVariants.{Doc, Elem, Text, Attr, Comm, Pi}
 
@@ -33,6 +34,11 @@ element_count (tree label attrs kids rest) = (if is_elem label then 1 else 0) + 
 abbrev pub is_no_text : Label → Bool
 is_no_text label = not (is_text label)
 
+-- where trees are printed, no declaration is added to those that they keep
+abbrev pub AddNone : Scope → Forest Label → Type 0
+AddNone scope none = Unit {0}
+AddNone scope (tree label attrs kids rest) = (is_elem label ≡ true → added scope label attrs ≡ []) × AddNone (scope_in scope label attrs) kids × AddNone scope rest
+
 -- one document, with one element and no text among its children
 pub record IsOneDocument (f : Forest Label) : Type 0 where
   pub label : Label
@@ -42,6 +48,7 @@ pub record IsOneDocument (f : Forest Label) : Type 0 where
   pub one_element : element_count kids ≡ 1
   pub no_text : AllTops is_no_text kids
   pub read_again : list_all is_read_again (walk kids) ≡ true
+  pub none_added : AddNone first_scope kids
 
 -- it is read without its path, and with ids from 0 in document order
 abbrev pub PrintedReads : Type 0

@@ -2,10 +2,11 @@
 use Rattle.std.specs.Prelude.{ℕ, Bool, true, false, ◌==◌, List, [], ◌∷◌, ◌++◌, codes, map, Option, Some, None, if◌then◌else◌}
 use Rattle.std.specs.List.{flat_map, join_with_byte}
 use Rattle.std.specs.Str.{bytes_eq}
+use Rattle.tree_model.specs.Declarations.{declarations_of, declared_name}
 use Rattle.tree_model.specs.Forest.{Forest, none, tree}
 use Rattle.tree_model.specs.Labels.{Label}
 use Rattle.tree_model.specs.Nodes.{Node}
-use Rattle.tree_model.specs.Sound.{prefixed_names}
+use Rattle.tree_model.specs.Sound.{prefixed_names, binding_of}
 use Rattle.tree_model.specs.XmlMeaning.{Pair, Scope, uri_of, first_scope}
 use Rattle.tree_model.specs.declared.row.Kind.{Kind}
 use Rattle.tree_model.specs.declared.row.Kind.TheVariants.{Doc, Elem, Text, Attr, Comm, Pi}
@@ -37,9 +38,6 @@ is_uri uri (Some bound) = bytes_eq bound uri
 unfoldable pub is_bound : Scope → Name → Bool
 is_bound scope name = is_uri name.uri (uri_of name.prefix scope)
 
-abbrev pub binding_of : Name → Pair
-binding_of name = (name.prefix, name.uri)
-
 -- the declarations that names want, one after the other: each only where what stands before doesn't bind its prefix so
 abbrev pub wanted : Scope → List Name → List Pair
 wanted scope [] = []
@@ -50,9 +48,13 @@ abbrev pub behind : List Pair → Scope → Scope
 behind [] scope = scope
 behind (binding ∷ bindings) scope = behind bindings (binding ∷ scope)
 
--- those of an element: for its own prefix, also the empty one, then for each prefix of its attributes
+-- those that are added to an element's own: for its prefix, also the empty one, then for each prefix of its attributes
+abbrev pub added : Scope → Label → List Label → List Pair
+added scope label attrs = wanted (behind (declarations_of label.value) scope) (prefixed_names label attrs)
+
+-- its own, then those that are added
 abbrev pub declarations : Scope → Label → List Label → List Pair
-declarations scope label attrs = wanted scope (prefixed_names label attrs)
+declarations scope label attrs = declarations_of label.value ++ added scope label attrs
 
 -- what is in scope in a node: only an element declares
 abbrev pub scope_in : Scope → Label → List Label → Scope
@@ -65,11 +67,6 @@ scope_in scope label attrs = by label.kind
     by Attr = scope
     by Comm = scope
     by Pi = scope
-
--- `xmlns:p` or, for the default, `xmlns`
-abbrev pub declared_name : List ℕ → List ℕ
-declared_name [] = codes "xmlns"
-declared_name (c ∷ prefix) = codes "xmlns:" ++ c ∷ prefix
 
 abbrev pub declaration_text : Pair → List ℕ
 declaration_text binding = 32 ∷ (declared_name binding.0 ++ (codes "=\"" ++ (value_text binding.1 ++ codes "\"")))

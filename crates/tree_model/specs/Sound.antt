@@ -3,6 +3,7 @@ use Rattle.std.specs.Prelude.{◌≡◌, ℕ, ◌<◌, ◌≤◌, ◌^◌, Bool,
 use Rattle.std.specs.List.{list_all, list_any}
 use Rattle.std.specs.Str.{bytes_eq, chars, is_utf8}
 use Rattle.std.specs.Char.{to_ascii_lowercase, is_ascii_alphanumeric}
+use Rattle.tree_model.specs.Declarations.{Binding, declarations_of, declarations_value}
 use Rattle.tree_model.specs.Forest.{Forest, none, tree, walk, count}
 use Rattle.tree_model.specs.Labels.{Label}
 use Rattle.tree_model.specs.XmlChars.{is_xml_char, is_xml_ncname, first_is, has_word}
@@ -58,17 +59,37 @@ is_target name = is_empty name.uri && is_empty name.prefix && is_xml_ncname name
 abbrev pub is_comment : List ℕ → Bool
 is_comment value = not (has_word (codes "--") (value ++ codes "-"))
 
+-- the prefix is empty or an NCName other than `xml` and `xmlns`; the uri is empty only with the empty prefix, and is neither that of `xml` nor
+-- that of `xmlns`
+abbrev pub is_good_declaration : Binding → Bool
+is_good_declaration d =
+    (is_empty d.0 || is_xml_ncname d.0) && not (bytes_eq d.0 (codes "xml")) && not (bytes_eq d.0 (codes "xmlns")) && (not (is_empty d.1) || is_empty d.0)
+    && not (bytes_eq d.1 xml_uri) && not (bytes_eq d.1 xmlns_uri) && are_chars d.1
+
+-- the value is the text of good declarations
+unfoldable pub spells_declarations : List ℕ → Bool
+spells_declarations value = bytes_eq (declarations_value (declarations_of value)) value && list_all is_good_declaration (declarations_of value)
+
 -- name and value are those that a node of the kind may have
 abbrev pub is_good_node : Kind → Name → List ℕ → Bool
 is_good_node Doc name value = has_no_name name
-is_good_node Elem name value = is_good_name name && is_empty value
+is_good_node Elem name value = is_good_name name && spells_declarations value
 is_good_node Text name value = has_no_name name && not (is_empty value)
 is_good_node Attr name value = is_attr_name name
 is_good_node Comm name value = has_no_name name && is_comment value
 is_good_node Pi name value = is_target name && not (has_word (codes "?>") value)
 
+-- the characters of a value are Chars; in an element's value those of its declarations are
+abbrev pub has_chars : Kind → List ℕ → Bool
+has_chars Doc value = are_chars value
+has_chars Elem value = true
+has_chars Text value = are_chars value
+has_chars Attr value = are_chars value
+has_chars Comm value = are_chars value
+has_chars Pi value = are_chars value
+
 abbrev pub is_good_label : Label → Bool
-is_good_label label = is_good_node label.kind label.name label.value && are_chars label.name.uri && are_chars label.value
+is_good_label label = is_good_node label.kind label.name label.value && are_chars label.name.uri && has_chars label.kind label.value
 
 -- ---- what stands where
 
@@ -146,18 +167,34 @@ fits parent child = (is_doc parent || is_elem parent) && not (is_doc child || is
 abbrev pub prefixed_names : Label → List Label → List Name
 prefixed_names label attrs = label.name ∷ filter (λ (name : Name). not (is_empty name.prefix)) (map (λ (a : Label). a.name) attrs)
 
+-- a name binds its prefix, also the empty one, to its uri
+abbrev pub binding_of : Name → Binding
+binding_of name = (name.prefix, name.uri)
+
+-- what an element binds: what it declares, and the prefixes of those names
+abbrev pub bindings_of : Label → List Label → List Binding
+bindings_of label attrs = declarations_of label.value ++ map binding_of (prefixed_names label attrs)
+
 -- each prefix has one uri
-abbrev pub has_one_uri : Name → Name → Bool
-has_one_uri a b = not (bytes_eq a.prefix b.prefix) || bytes_eq a.uri b.uri
+abbrev pub has_one_uri : Binding → Binding → Bool
+has_one_uri a b = not (bytes_eq a.0 b.0) || bytes_eq a.1 b.1
 
-abbrev pub have_one_uri : List Name → Bool
+abbrev pub have_one_uri : List Binding → Bool
 have_one_uri [] = true
-have_one_uri (name ∷ names) = list_all (has_one_uri name) names && have_one_uri names
+have_one_uri (binding ∷ bindings) = list_all (has_one_uri binding) bindings && have_one_uri bindings
 
--- only an element has attributes; their names differ, and each prefix in the element has one uri
+abbrev pub are_distinct : List (List ℕ) → Bool
+are_distinct [] = true
+are_distinct (x ∷ xs) = not (list_any (bytes_eq x) xs) && are_distinct xs
+
+-- no prefix is declared twice, and each prefix in the element has one uri
+unfoldable pub binds_well : Label → List Label → Bool
+binds_well label attrs = are_distinct (map (λ (d : Binding). d.0) (declarations_of label.value)) && have_one_uri (bindings_of label attrs)
+
+-- only an element has attributes; their names differ, and it binds well, also where it has none
 abbrev pub owns : Label → List Label → Bool
-owns label [] = true
-owns label (a ∷ attrs) = is_elem label && list_all is_attr (a ∷ attrs) && are_distinct_names (map (λ (b : Label). b.name) (a ∷ attrs)) && have_one_uri (prefixed_names label (a ∷ attrs))
+owns label [] = not (is_elem label) || binds_well label []
+owns label (a ∷ attrs) = is_elem label && list_all is_attr (a ∷ attrs) && are_distinct_names (map (λ (b : Label). b.name) (a ∷ attrs)) && binds_well label (a ∷ attrs)
 
 abbrev pub AllTops : {A : Type 0} → (A → Bool) → Forest A → Type 0
 AllTops test none = Unit {0}
@@ -192,10 +229,6 @@ abbrev pub top_values : Forest Label → List (List ℕ)
 top_values none = []
 top_values (tree label attrs kids rest) = label.value ∷ top_values rest
 
-abbrev pub are_distinct : List (List ℕ) → Bool
-are_distinct [] = true
-are_distinct (x ∷ xs) = not (list_any (bytes_eq x) xs) && are_distinct xs
-
 -- ---- the whole
 
 -- how many nodes have the id
@@ -229,7 +262,7 @@ is_loose_node Comm name value = is_good_node Comm name value
 is_loose_node Pi name value = is_good_node Pi name value
 
 abbrev pub is_loose_label : Label → Bool
-is_loose_label label = is_loose_node label.kind label.name label.value && are_chars label.name.uri && are_chars label.value
+is_loose_label label = is_loose_node label.kind label.name label.value && are_chars label.name.uri && has_chars label.kind label.value
 
 -- only an element has attributes; their names may be the same, and a prefix may have two uris
 abbrev pub bears : Label → List Label → Bool

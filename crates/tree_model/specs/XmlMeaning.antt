@@ -4,6 +4,7 @@ use Rattle.std.specs.List.{flat_map, list_all, list_any}
 use Rattle.std.specs.Option.{option_map_or, is_none}
 use Rattle.std.specs.Str.{bytes_eq}
 use Rattle.std.specs.Char.{encode_utf8}
+use Rattle.tree_model.specs.Declarations.{declarations_value}
 use Rattle.tree_model.specs.Forest.{Forest, none, tree, join}
 use Rattle.tree_model.specs.Labels.{Label, doc_label, text_label, local_name, numbered}
 use Rattle.tree_model.specs.Sound.{is_empty, xml_uri, xmlns_uri}
@@ -142,14 +143,20 @@ is_bad_tag inside name attrs =
 
 -- ---- trees
 
+-- what an element keeps of its tag's declarations: all but those of `xml`, in the order written
+unfoldable pub kept_declarations : List Pair → List Pair
+kept_declarations [] = []
+kept_declarations (a ∷ attrs) =
+    if is_declaration a.0 && not (bytes_eq (declared_prefix a.0) (codes "xml")) then (declared_prefix a.0, a.1) ∷ kept_declarations attrs else kept_declarations attrs
+
 abbrev pub attr_label : Scope → Pair → Label
 attr_label scope a = record { kind = AttrKind; id = 0; name = attr_name scope a.0; value = a.1 }
 
 abbrev pub attr_labels : Scope → List Pair → List Label
 attr_labels scope attrs = map (attr_label scope) (plain_attrs attrs)
 
-abbrev pub tag_label : Scope → List ℕ → Label
-tag_label scope name = record { kind = Elem; id = 0; name = element_name scope name; value = [] }
+abbrev pub tag_label : Scope → List ℕ → List Pair → Label
+tag_label scope name attrs = record { kind = Elem; id = 0; name = element_name scope name; value = declarations_value (kept_declarations attrs) }
 
 abbrev pub comm_label : List ℕ → Label
 comm_label bytes = record { kind = Comm; id = 0; name = local_name []; value = line_ends bytes }
@@ -171,11 +178,11 @@ content_trees strip scope gathered done = with_gathered strip gathered none
 content_trees strip scope gathered (element name attrs gap inner last more) =
     let pairs = map pair_of attrs in
     let inside = with_attrs pairs scope in
-    with_gathered strip gathered (tree (tag_label inside name) (attr_labels inside pairs) (content_trees strip inside [] inner) (content_trees strip scope [] more))
+    with_gathered strip gathered (tree (tag_label inside name pairs) (attr_labels inside pairs) (content_trees strip inside [] inner) (content_trees strip scope [] more))
 content_trees strip scope gathered (empty name attrs gap more) =
     let pairs = map pair_of attrs in
     let inside = with_attrs pairs scope in
-    with_gathered strip gathered (tree (tag_label inside name) (attr_labels inside pairs) none (content_trees strip scope [] more))
+    with_gathered strip gathered (tree (tag_label inside name pairs) (attr_labels inside pairs) none (content_trees strip scope [] more))
 content_trees strip scope gathered (part p more) = content_trees strip scope (gathered ++ value_in_text p) more
 content_trees strip scope gathered (cdata bytes more) = content_trees strip scope (gathered ++ line_ends bytes) more
 content_trees strip scope gathered (comm bytes more) = with_gathered strip gathered (tree (comm_label bytes) [] none (content_trees strip scope [] more))

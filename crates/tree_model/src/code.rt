@@ -2,6 +2,7 @@
 ghost use Rattle.std.specs.Prelude.{◌≡◌};
 ghost use Rattle.tree_model.specs.CodeTexts.{text_of_code};
 
+use std::alloc::AllocError;
 use std::marker::Model;
 
 /// Why a command is refused: a code of XQuery 1.0, of the XQuery Update Facility 1.0, or one of this kernel's own, which
@@ -190,6 +191,17 @@ impl Code {
 pub enum Refusal {
     Code(Code),
     NoMemory,
+}
+
+impl From<AllocError> for Refusal {
+    ghost use Rattle.std.specs.Prelude.{◌≡◌};
+    ghost use Rattle.tree_model.specs.declared.code.Refusal.TheVariants.{NoMemory};
+
+    ghost from_gives = { λ _ e. e ≡ NoMemory };
+
+    fn from(_: AllocError) -> Refusal {
+        Refusal::NoMemory
+    }
 }
 
 /// The eight characters of a code.

@@ -1,5 +1,6 @@
 // Laws of the definitions, each as the contract of a function that does nothing.
 ghost use Rattle.tree_model.specs.Forest.{IsOneToOne};
+ghost use Rattle.tree_model.specs.Ids.{IdsLeadToPlaces};
 ghost use Rattle.tree_model.specs.Labels.{Label};
 ghost use Rattle.tree_model.specs.Sound.{SoundIsLoose};
 ghost use Rattle.tree_model.specs.XmlReadsSound.{XmlReadsSound};
@@ -18,4 +19,9 @@ pub fn spelled_trees_are_sound()
 /// Documents that keep all rules keep those that hold while an update is applied.
 pub fn sound_documents_are_loose()
     ensures { SoundIsLoose }
+{}
+
+/// Where the ids of all nodes differ, the node with an id is the one at the place that stands beside it.
+pub fn ids_lead_to_places()
+    ensures { IdsLeadToPlaces }
 {}

@@ -11,7 +11,9 @@ mod text;
 pub use axis::{Axis, AxisStep, Test};
 pub use code::{Code, Refusal, code_text};
 pub use item::{ArithOp, CompOp, Item, NodeRef, Num, TreeRef};
-pub use laws::{equal_flattenings, sound_documents_are_loose, spelled_trees_are_sound};
+pub use laws::{
+    equal_flattenings, ids_lead_to_places, sound_documents_are_loose, spelled_trees_are_sound,
+};
 pub use row::{Kind, Row, ValueRef};
 pub use text::{Name, NoMemory, Text};
 

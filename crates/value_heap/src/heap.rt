@@ -49,6 +49,23 @@ impl ValueHeap {
         })
     }
 
+    /// Puts the bytes of a value behind all others once more, and says where they lie then.
+    pub fn append_copy(&mut self, r: ValueRef) -> Result<ValueRef, NoMemory>
+        requires within { r.at + r.len ≤ length self.old }
+        ensures grown { OnOk result (self.new ≡ self.old ++ value_at self.old r) }
+        ensures at { IfOk result (λ copy. copy.at ≡ length self.old) }
+        ensures len { IfOk result (λ copy. copy.len ≡ r.len) }
+        ensures kept { OnErr result (self.new ≡ self.old) }
+    {
+        let copy = ValueRef {
+            at: self.mark(),
+            len: r.len,
+        };
+        self.bytes
+            .extend_from_within(r.at as usize..(r.at + r.len) as usize)?;
+        Ok(copy)
+    }
+
     /// The bytes of a value.
     pub fn get(&self, r: ValueRef) -> &[u8]
         requires within { r.at + r.len ≤ length self.now }

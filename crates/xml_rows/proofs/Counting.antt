@@ -76,9 +76,9 @@ plain_most (a ∷ pairs) = by (is_declaration a.0) (plain_most pairs)
     by false h = omega arith
 
 pub tag_most : (inside : Scope) (name : List ℕ) (pairs : List Pair) (ls : List (Line Label)) (open_at : List ℕ)
-    → length (with_tag (tag_label inside name) (attr_labels inside pairs) ls open_at) ≤ length ls + (1 + length pairs)
+    → length (with_tag (tag_label inside name pairs) (attr_labels inside pairs) ls open_at) ≤ length ls + (1 + length pairs)
 tag_most inside name pairs ls open_at =
-    omega (arith, length-with_tag (tag_label inside name) (attr_labels inside pairs) ls open_at, length-map (plain_attrs pairs) (attr_label inside), plain_most pairs)
+    omega (arith, length-with_tag (tag_label inside name pairs) (attr_labels inside pairs) ls open_at, length-map (plain_attrs pairs) (attr_label inside), plain_most pairs)
 
 step_weight : (strip : Bool) (doing : Doing) (w : Work) (t : Token) → w.doing ≡ doing
     → weight (works_at strip doing w t) ≤ length w.lines + text_weight w.gathered + doing_weight doing + length (token_text t)

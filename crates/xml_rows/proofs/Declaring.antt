@@ -1,15 +1,16 @@
 -- The declarations among the attributes of a tag.
-use Rattle.std.proofs.Common.{◌≡◌, ℕ, ◌+◌, length, subst, arith, Bool, true, false, List, [], ◌∷◌, Option, Some, None, refl, sym, ap, ◌∙◌, ◌&&◌, ◌||◌}
+use Rattle.std.proofs.Common.{◌≡◌, ℕ, ◌+◌, length, subst, arith, Bool, true, false, not, List, [], ◌∷◌, ◌++◌, append_assoc, append-nil, Option, Some, None, refl, sym, ap, ◌∙◌, ◌&&◌, ◌||◌}
 use Rattle.std.specs.Prelude.{codes, if◌then◌else◌}
 use Rattle.std.specs.Option.{is_some, option_map}
 use Rattle.std.specs.Str.{bytes_eq}
 use Rattle.std.proofs.Math.Bool.{or_assoc}
+use Rattle.tree_model.specs.Declarations.{declarations_value}
 use Rattle.tree_model.specs.Rows.{value_at}
 use Rattle.tree_model.specs.XmlChars.{has_colon, before_colon, behind_colon}
-use Rattle.tree_model.specs.XmlMeaning.{Pair, Scope, is_declaration, declared_prefix, with_attrs, plain_attrs, is_bad_binding, has_bad_binding}
+use Rattle.tree_model.specs.XmlMeaning.{Pair, Scope, is_declaration, declared_prefix, with_attrs, plain_attrs, is_bad_binding, has_bad_binding, kept_declarations}
 use Rattle.xml_rows.specs.Numbers.{split_of}
 use Rattle.xml_rows.specs.Scoping.{binding}
-use Rattle.xml_rows.specs.Tagging.{declared_of, pair_of, pairs_of, ArePairs}
+use Rattle.xml_rows.specs.Tagging.{declared_of, kept_binding, kept_value, pair_of, pairs_of, ArePairs}
 use Rattle.xml_rows.specs.Words.{Bytes, now}
 use Rattle.xml_rows.specs.declared.tag.Pair as code
 
@@ -97,6 +98,29 @@ bad_declared a attrs prefix is =
 pub bad_plain : (a : Pair) (attrs : List Pair) → None ≡ declared_of a.0 → has_bad_binding (a ∷ attrs) ≡ has_bad_binding attrs
 bad_plain a attrs is = ap (λ b. (b && is_bad_binding (declared_prefix a.0) a.1) || has_bad_binding attrs) (declares_not a.0 is)
 
+-- the text of what is kept of one declaration, and of those behind it
+kept_by : (is_xml : Bool) (prefix uri : List ℕ) (attrs : List Pair)
+    → declarations_value (if not is_xml then binding prefix uri ∷ kept_declarations attrs else kept_declarations attrs)
+    ≡ declarations_value (if is_xml then [] else binding prefix uri ∷ []) ++ declarations_value (kept_declarations attrs)
+kept_by true prefix uri attrs = refl
+kept_by false prefix uri attrs =
+    let rest : List ℕ = declarations_value (kept_declarations attrs) in
+    sym (append_assoc prefix (0 ∷ (uri ++ 0 ∷ [])) rest ∙ ap (λ l. prefix ++ 0 ∷ l) (append_assoc uri (0 ∷ []) rest))
+
+pub kept_declared : (a : Pair) (attrs : List Pair) (prefix : List ℕ) → Some prefix ≡ declared_of a.0
+    → declarations_value (kept_declarations (a ∷ attrs)) ≡ declarations_value (kept_binding prefix a.1) ++ declarations_value (kept_declarations attrs)
+unfolding kept_declarations
+kept_declared a attrs prefix is =
+    let d = declares a.0 prefix is in
+    ap (λ b. declarations_value (if b && not (bytes_eq (declared_prefix a.0) (codes "xml")) then binding (declared_prefix a.0) a.1 ∷ kept_declarations attrs else kept_declarations attrs)) d.0
+    ∙ ap (λ p. declarations_value (if not (bytes_eq p (codes "xml")) then binding p a.1 ∷ kept_declarations attrs else kept_declarations attrs)) d.1
+    ∙ kept_by (bytes_eq prefix (codes "xml")) prefix a.1 attrs
+
+pub kept_plain : (a : Pair) (attrs : List Pair) → None ≡ declared_of a.0 → kept_declarations (a ∷ attrs) ≡ kept_declarations attrs
+unfolding kept_declarations
+kept_plain a attrs is =
+    ap (λ b. if b && not (bytes_eq (declared_prefix a.0) (codes "xml")) then binding (declared_prefix a.0) a.1 ∷ kept_declarations attrs else kept_declarations attrs) (declares_not a.0 is)
+
 -- ---- one step of the loop over attributes: those that are left begin with one
 
 pub pairs_step : (values : List ℕ) (rest tail : List code.Pair) (pair : code.Pair) → rest ≡ pair ∷ tail → ArePairs values rest → ArePairs values tail
@@ -137,7 +161,24 @@ pub with_step_plain : (values : List ℕ) (rest tail : List code.Pair) (pair : c
 with_step_plain values rest tail pair scope whole is plain sofar =
     sym (with_plain (pair_of values pair) (pairs_of values tail) scope plain) ∙ ap (λ l. with_attrs (pairs_of values l) scope) (sym is) ∙ sofar
 
+pub kept_step : (values : List ℕ) (rest tail : List code.Pair) (pair : code.Pair) (before more whole prefix : List ℕ) → rest ≡ pair ∷ tail → Some prefix ≡ declared_of pair.name.now
+    → more ≡ before ++ declarations_value (kept_binding prefix (value_at values pair.val)) → before ++ kept_value values rest ≡ whole → more ++ kept_value values tail ≡ whole
+kept_step values rest tail pair before more whole prefix is declared more_is sofar =
+    ap (λ l. l ++ kept_value values tail) more_is
+    ∙ append_assoc before (declarations_value (kept_binding prefix (value_at values pair.val))) (kept_value values tail)
+    ∙ ap (λ l. before ++ l) (sym (kept_declared (pair_of values pair) (pairs_of values tail) prefix declared))
+    ∙ ap (λ l. before ++ kept_value values l) (sym is) ∙ sofar
+
+pub kept_step_plain : (values : List ℕ) (rest tail : List code.Pair) (pair : code.Pair) (before whole : List ℕ) → rest ≡ pair ∷ tail → None ≡ declared_of pair.name.now
+    → before ++ kept_value values rest ≡ whole → before ++ kept_value values tail ≡ whole
+kept_step_plain values rest tail pair before whole is plain sofar =
+    ap (λ l. before ++ declarations_value l) (sym (kept_plain (pair_of values pair) (pairs_of values tail) plain)) ∙ ap (λ l. before ++ kept_value values l) (sym is) ∙ sofar
+
 -- none are left
+
+pub kept_last : (values : List ℕ) (rest : List code.Pair) (before whole : List ℕ) → rest ≡ [] → before ++ kept_value values rest ≡ whole → before ≡ whole
+unfolding kept_declarations
+kept_last values rest before whole is sofar = sym (ap (λ l. before ++ kept_value values l) is ∙ append-nil before) ∙ sofar
 
 pub with_none : (values : List ℕ) (rest : List code.Pair) (scope : Scope) → rest ≡ [] → with_attrs (pairs_of values rest) scope ≡ scope
 unfolding with_attrs

@@ -66,14 +66,14 @@ step_opened strip in_content w (close_token name last) is =
 step_opened strip (in_tag tag) w (attr_token gap key before behind delim) is = record { below = is.below; scopes = is.scopes }
 step_opened strip (in_tag tag) w (go_token gap) is =
     let inside = with_attrs tag.pairs w.scope in
-    let e = length-with_tag (tag_label inside tag.name) (attr_labels inside tag.pairs) w.lines w.open_at in
+    let e = length-with_tag (tag_label inside tag.name tag.pairs) (attr_labels inside tag.pairs) w.lines w.open_at in
     record {
       below = (omega (arith, e), below_more (length w.lines) (length (works_at strip (in_tag tag) w (go_token gap)).lines) w.open_at (omega (arith, e)) is.below);
       scopes = omega (arith, is.scopes);
     }
 step_opened strip (in_tag tag) w (shut_token gap) is =
     let inside = with_attrs tag.pairs w.scope in
-    let e = length-with_tag (tag_label inside tag.name) (attr_labels inside tag.pairs) w.lines w.open_at in
+    let e = length-with_tag (tag_label inside tag.name tag.pairs) (attr_labels inside tag.pairs) w.lines w.open_at in
     record { below = below_more (length w.lines) (length (works_at strip (in_tag tag) w (shut_token gap)).lines) w.open_at (omega (arith, e)) is.below; scopes = is.scopes }
 step_opened strip (in_value tag key value) w (part_token p) is = record { below = is.below; scopes = is.scopes }
 step_opened strip (in_value tag key value) w (quote_token delim) is = record { below = is.below; scopes = is.scopes }

@@ -15,7 +15,8 @@ use Rattle.tree_model.specs.XmlSource.{run, entity, decimal, hexadecimal}
 use Rattle.xml_pieces.specs.Tokens.{part_token}
 use Rattle.xml_rows.specs.BuilderView.{IsTag, IsReady}
 use Rattle.xml_rows.specs.Leaving.{inner_of, outer_less}
-use Rattle.xml_rows.specs.Scoping.{Numbering, scope_in, scopes_in, AreUris, EachAreUris}
+use Rattle.prefix_scopes.specs.Scoping.{Numbering}
+use Rattle.xml_rows.specs.Scoping.{scope_in, scopes_in, AreUris, EachAreUris}
 use Rattle.xml_rows.specs.Numbers.{Begins}
 use Rattle.xml_rows.specs.Texts.{pending_count, valued_label}
 use Rattle.xml_rows.specs.Values.{Gathered}

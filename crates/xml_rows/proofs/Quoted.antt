@@ -22,6 +22,7 @@ use Rattle.xml_rows.specs.declared.parts.Doing.TheVariants.{InValue}
 use Rattle.xml_rows.specs.declared.parts.Tag.{Tag}
 use Rattle.xml_rows.specs.declared.tag.Pair.{Pair}
 use Rattle.xml_rows.proofs.Parted.{or_none}
+use Rattle.xml_rows.proofs.Valued.{pairs_valued}
 
 -- ---- what is kept
 
@@ -83,11 +84,6 @@ doing_entity tag settled grown pending more text within fault e1 e2 e3 =
 
 abbrev pub pair_as : Pair → List ℕ → meaning.Pair
 pair_as pair value = (pair.name.now, value)
-
-pairs_valued : (values more : List ℕ) (pairs : List Pair) → ArePairs values pairs → pairs_of (values ++ more) pairs ≡ pairs_of values pairs
-pairs_valued values more [] are = refl
-pairs_valued values more (pair ∷ pairs) are =
-    ap (λ v. pair_as pair v ∷ pairs_of (values ++ more) pairs) (value_kept values more pair.val are.0.within) ∙ ap (λ l. pair_of values pair ∷ l) (pairs_valued values more pairs are.1)
 
 pub pairs_quoted : (values value more : List ℕ) (pairs grown : List Pair) (pair : Pair) → more ≡ values ++ value → grown ≡ pairs ++ pair ∷ [] → pair.val.at ≡ length values → pair.val.len ≡ length value → ArePairs values pairs
     → pairs_of more grown ≡ pairs_of values pairs ++ pair_as pair value ∷ []

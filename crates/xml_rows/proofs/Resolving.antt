@@ -1,15 +1,17 @@
 -- Names with the URIs of their prefixes, and the rows of a tag.
 use Rattle.std.proofs.Common.{◌≡◌, ℕ, ◌-◌, ◌<◌, List, [], ◌∷◌, ◌++◌, length, Option, Some, None, sym, ap, ◌∙◌, subst}
 use Rattle.std.specs.Option.{option_map, unwrap_or, IfSome}
-use Rattle.tree_model.specs.Rows.{name_at, lines_of, ArePlaced}
-use Rattle.tree_model.specs.XmlMeaning.{Scope, or_empty, attr_uri, element_uri, attr_label, tag_label}
+use Rattle.tree_model.specs.Rows.{name_at, value_at, lines_of, ArePlaced}
+use Rattle.tree_model.specs.XmlMeaning.{Scope, or_empty, attr_uri, element_uri, attr_label, element_name}
 use Rattle.tree_model.specs.declared.row.Kind.TheVariants.{Attr, Elem}
 use Rattle.tree_model.specs.declared.row.Row.{Row}
+use Rattle.tree_model.specs.declared.row.ValueRef.{ValueRef}
 use Rattle.tree_model.specs.declared.text.Name.{Name}
 use Rattle.tree_model.proofs.Tables.{lines_named, placed_named}
 use Rattle.xml_rows.specs.Numbers.{Begins, uri_at, name_in, IsNumber}
 use Rattle.xml_rows.specs.Table.{label_at, element_line}
 use Rattle.xml_rows.specs.Tagging.{pair_of}
+use Rattle.xml_rows.specs.Texts.{valued_label}
 use Rattle.xml_rows.specs.Work.{leaf}
 use Rattle.xml_rows.specs.declared.tag.Pair.{Pair}
 use Rattle.xml_rows.proofs.Growing.{begins_more}
@@ -47,12 +49,12 @@ attribute_lines names more uris others values old new place n number pair inside
     lines ∙ ap (λ (name : Name). lines_of more values old ++ leaf (length old) (length old - place) (record { kind = Attr; id = 0; name = name; value = (pair_of values pair).1 }) ∷ []) e1
     ∙ ap (λ l. l ++ leaf (length old) (length old - place) (attr_label inside (pair_of values pair)) ∷ []) e2
 
-pub element_lines : (names more : List Name) (uris others : List (List ℕ)) (values : List ℕ) (old new : List Row) (place attributes n number : ℕ) (written : List ℕ) (inside : Scope) → Begins names more → ArePlaced names values old
+pub element_lines : (names more : List Name) (uris others : List (List ℕ)) (values : List ℕ) (old new : List Row) (place attributes n number : ℕ) (val : ValueRef) (written : List ℕ) (inside : Scope) → Begins names more → ArePlaced names values old
     → IsNumber more others number written n → others ≡ uris → uri_at uris number ≡ or_empty (element_uri inside written)
-    → lines_of more values new ≡ lines_of more values old ++ element_line (length old) (length old - place) (label_at more values Elem n (record { at = 0; len = 0 })) attributes ∷ []
-    → lines_of more values new ≡ lines_of names values old ++ element_line (length old) (length old - place) (tag_label inside written) attributes ∷ []
-element_lines names more uris others values old new place attributes n number written inside begins placed is same at lines =
+    → lines_of more values new ≡ lines_of more values old ++ element_line (length old) (length old - place) (label_at more values Elem n val) attributes ∷ []
+    → lines_of more values new ≡ lines_of names values old ++ element_line (length old) (length old - place) (valued_label Elem (element_name inside written) (value_at values val)) attributes ∷ []
+element_lines names more uris others values old new place attributes n number val written inside begins placed is same at lines =
     let e1 = name_is more uris others n number (or_empty (element_uri inside written)) written is same at in
     let e2 = lines_begun names more values old begins placed in
-    lines ∙ ap (λ (name : Name). lines_of more values old ++ element_line (length old) (length old - place) (record { kind = Elem; id = 0; name = name; value = [] }) attributes ∷ []) e1
-    ∙ ap (λ l. l ++ element_line (length old) (length old - place) (tag_label inside written) attributes ∷ []) e2
+    lines ∙ ap (λ (name : Name). lines_of more values old ++ element_line (length old) (length old - place) (valued_label Elem name (value_at values val)) attributes ∷ []) e1
+    ∙ ap (λ l. l ++ element_line (length old) (length old - place) (valued_label Elem (element_name inside written) (value_at values val)) attributes ∷ []) e2

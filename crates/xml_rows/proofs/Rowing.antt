@@ -43,3 +43,11 @@ ended_at names values old rows opened more open_at place size row rows_is open_i
 pub placed_at : (names : List Name) (values : List ℕ) (old rows : List Row) (place size : ℕ) (row : Row) → rows ≡ old → row ≡ get_or rows place row → place < length rows → ArePlaced names values old
     → ArePlaced names values (set rows place (record row { size = size }))
 placed_at names values old rows place size row rows_is at lt placed = placed_sized names values rows place size row at lt (subst (λ x. ArePlaced names values x) (sym rows_is) placed)
+
+-- ---- all rows, where names, values and rows are those that the work speaks of
+
+pub finished_by : (names named : List Name) (values valued : List ℕ) (rows old new : List Row) → names ≡ named → values ≡ valued → rows ≡ old → lines_of names values new ≡ sized (length rows) 0 (lines_of names values rows)
+    → lines_of names values new ≡ sized (length (lines_of named valued old)) 0 (lines_of named valued old)
+finished_by names named values valued rows old new names_are values_are rows_are lines =
+    lines ∙ ap (λ n. sized n 0 (lines_of names values rows)) (sym (lines_length names values rows))
+    ∙ ap (λ l. sized (length l) 0 l) (ap (λ x. lines_of x values rows) names_are ∙ ap (λ x. lines_of named x rows) values_are ∙ ap (lines_of named valued) rows_are)

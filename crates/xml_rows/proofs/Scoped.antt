@@ -6,7 +6,8 @@ use Rattle.std.specs.Str.{bytes_eq}
 use Rattle.tree_model.specs.XmlChars.{has_colon, before_colon, behind_colon, prefix_of}
 use Rattle.tree_model.specs.XmlMeaning.{uri_of, element_uri, attr_uri}
 use Rattle.xml_rows.specs.Numbers.{Begins, uri_at, split_of}
-use Rattle.xml_rows.specs.Scoping.{Numbering, binding, number_of, scope_in, scopes_in, AreUris, EachAreUris}
+use Rattle.prefix_scopes.specs.Scoping.{Numbering, number_of}
+use Rattle.xml_rows.specs.Scoping.{binding, scope_in, scopes_in, AreUris, EachAreUris}
 use Rattle.xml_rows.proofs.Growing.{begins_at, begins_length}
 
 pub scope_grown : (uris more : List (List ℕ)) (scope : List Numbering) → Begins uris more → AreUris (length uris) scope → scope_in more scope ≡ scope_in uris scope

@@ -17,12 +17,12 @@ walked strip scope gathered (element name attrs gap inner last more) =
     let pairs = map pair_of attrs in
     let inside = with_attrs pairs scope in
     let rest = walked strip scope [] more in
-    (with_gathered strip gathered (tree (tag_label inside name) (attr_labels inside pairs) (content_trees strip inside [] inner) rest.0), rest.1)
+    (with_gathered strip gathered (tree (tag_label inside name pairs) (attr_labels inside pairs) (content_trees strip inside [] inner) rest.0), rest.1)
 walked strip scope gathered (empty name attrs gap more) =
     let pairs = map pair_of attrs in
     let inside = with_attrs pairs scope in
     let rest = walked strip scope [] more in
-    (with_gathered strip gathered (tree (tag_label inside name) (attr_labels inside pairs) none rest.0), rest.1)
+    (with_gathered strip gathered (tree (tag_label inside name pairs) (attr_labels inside pairs) none rest.0), rest.1)
 walked strip scope gathered (part p more) = walked strip scope (gathered ++ value_in_text p) more
 walked strip scope gathered (cdata bytes more) = walked strip scope (gathered ++ line_ends bytes) more
 walked strip scope gathered (comm bytes more) =
@@ -45,12 +45,12 @@ pub walked_all : (strip : Bool) (g : Content) (scope : Scope) (gathered : List �
 walked_all strip done scope gathered = refl
 walked_all strip (element name attrs gap inner last more) scope gathered =
     let inside : Scope = with_attrs (map pair_of attrs) scope in
-    let first : Forest Label → Forest Label = tree (tag_label inside name) (attr_labels inside (map pair_of attrs)) (content_trees strip inside [] inner) in
+    let first : Forest Label → Forest Label = tree (tag_label inside name (map pair_of attrs)) (attr_labels inside (map pair_of attrs)) (content_trees strip inside [] inner) in
     join_gathered strip gathered (first (walked strip scope [] more).0) (with_gathered strip (walked strip scope [] more).1 none)
     ∙ ap (λ x. with_gathered strip gathered (first x)) (walked_all strip more scope [])
 walked_all strip (empty name attrs gap more) scope gathered =
     let inside : Scope = with_attrs (map pair_of attrs) scope in
-    let first : Forest Label → Forest Label = tree (tag_label inside name) (attr_labels inside (map pair_of attrs)) none in
+    let first : Forest Label → Forest Label = tree (tag_label inside name (map pair_of attrs)) (attr_labels inside (map pair_of attrs)) none in
     join_gathered strip gathered (first (walked strip scope [] more).0) (with_gathered strip (walked strip scope [] more).1 none)
     ∙ ap (λ x. with_gathered strip gathered (first x)) (walked_all strip more scope [])
 walked_all strip (part p more) scope gathered = walked_all strip more scope (gathered ++ value_in_text p)
@@ -86,7 +86,7 @@ module _ (strip : Bool) (name : List ℕ) (attrs : List Attr) (gap : List ℕ) (
   before_tag = placed (top open_at) ls (with_gathered strip gathered none)
 
   abbrev behind_tag : List (Line Label)
-  behind_tag = with_tag (tag_label within name) (attr_labels within (map pair_of attrs)) before_tag open_at
+  behind_tag = with_tag (tag_label within name (map pair_of attrs)) (attr_labels within (map pair_of attrs)) before_tag open_at
 
   start_works : (rest : List Token) → all_works strip (open_token name ∷ (attr_tokens attrs ++ go_token gap ∷ rest)) (made ls open_at gathered scope outer at fault in_content)
       ≡ all_works strip rest (made behind_tag (length before_tag ∷ open_at) [] within (scope ∷ outer) (behind_attrs + length (gap ++ 62 ∷ [])) (or_first fault tag_first) in_content)
@@ -98,7 +98,7 @@ module _ (strip : Bool) (name : List ℕ) (attrs : List Attr) (gap : List ℕ) (
       ∙ ap (all_works strip (go_token gap ∷ rest)) (attrs_works strip before_tag open_at [] scope outer fault name at attrs [] begun None)
 
   pub empty_works : (rest : List Token) → all_works strip (open_token name ∷ (attr_tokens attrs ++ shut_token gap ∷ rest)) (made ls open_at gathered scope outer at fault in_content)
-      ≡ all_works strip rest (made (placed (top open_at) before_tag (tree (tag_label within name) (attr_labels within (map pair_of attrs)) none none)) open_at [] scope outer
+      ≡ all_works strip rest (made (placed (top open_at) before_tag (tree (tag_label within name (map pair_of attrs)) (attr_labels within (map pair_of attrs)) none none)) open_at [] scope outer
       (behind_attrs + length (gap ++ 47 ∷ 62 ∷ [])) (or_first fault tag_first) in_content)
   unfolding works
   empty_works rest =
@@ -107,7 +107,7 @@ module _ (strip : Bool) (name : List ℕ) (attrs : List Attr) (gap : List ℕ) (
       ∙ works-append strip (attr_tokens attrs) (shut_token gap ∷ rest) (made before_tag open_at [] scope outer begun fault (in_tag (tag_with name at [] None)))
       ∙ ap (all_works strip (shut_token gap ∷ rest)) (attrs_works strip before_tag open_at [] scope outer fault name at attrs [] begun None)
       ∙ ap (λ x. all_works strip rest (made x open_at [] scope outer (behind_attrs + length (gap ++ 47 ∷ 62 ∷ [])) (or_first fault tag_first) in_content))
-      (tag_placed (tag_label within name) (attr_labels within (map pair_of attrs)) before_tag open_at)
+      (tag_placed (tag_label within name (map pair_of attrs)) (attr_labels within (map pair_of attrs)) before_tag open_at)
 
   -- the place behind the start tag, and the faults from there to the end tag
   abbrev behind_start : ℕ
@@ -115,12 +115,12 @@ module _ (strip : Bool) (name : List ℕ) (attrs : List Attr) (gap : List ℕ) (
 
   pub element_works : (inner : Content) (last : List ℕ) (rest : List Token) → Makes strip inner
       → all_works strip (open_token name ∷ (attr_tokens attrs ++ go_token gap ∷ (tokens inner ++ close_token name last ∷ rest))) (made ls open_at gathered scope outer at fault in_content)
-      ≡ all_works strip rest (made (placed (top open_at) before_tag (tree (tag_label within name) (attr_labels within (map pair_of attrs)) (content_trees strip within [] inner) none)) open_at [] scope outer
+      ≡ all_works strip rest (made (placed (top open_at) before_tag (tree (tag_label within name (map pair_of attrs)) (attr_labels within (map pair_of attrs)) (content_trees strip within [] inner) none)) open_at [] scope outer
       (behind_start + length (content_text inner) + length (close_source name last)) (or_first (or_first fault tag_first) (first_of (content_faults within behind_start inner))) in_content)
   unfolding works
   element_works inner last rest makes =
       let n : ℕ = length before_tag in
-      let label : Label = tag_label within name in
+      let label : Label = tag_label within name (map pair_of attrs) in
       let own : List Label = attr_labels within (map pair_of attrs) in
       let few : n < length behind_tag = omega (arith, length-with_tag label own before_tag open_at) in
       let kids : Forest Label = (walked strip within [] inner).0 in
@@ -172,7 +172,7 @@ content_works strip done ls place up gathered scope outer at fault h =
 content_works strip (element name attrs gap inner last more) ls place up gathered scope outer at fault h =
     let pairs : List Pair = map pair_of attrs in
     let inside : Scope = with_attrs pairs scope in
-    let label : Label = tag_label inside name in
+    let label : Label = tag_label inside name pairs in
     let own : List Label = attr_labels inside pairs in
     let kids : Forest Label = content_trees strip inside [] inner in
     let rest : Forest Label = (walked strip scope [] more).0 in
@@ -206,7 +206,7 @@ content_works strip (element name attrs gap inner last more) ls place up gathere
 content_works strip (empty name attrs gap more) ls place up gathered scope outer at fault h =
     let pairs : List Pair = map pair_of attrs in
     let inside : Scope = with_attrs pairs scope in
-    let label : Label = tag_label inside name in
+    let label : Label = tag_label inside name pairs in
     let own : List Label = attr_labels inside pairs in
     let rest : Forest Label = (walked strip scope [] more).0 in
     let text : List (Line Label) = placed place ls (with_gathered strip gathered none) in

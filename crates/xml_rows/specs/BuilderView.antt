@@ -76,7 +76,7 @@ abbrev pub tag_done : work.Work → work.Tag → work.Work
 tag_done w tag =
     let inside = with_attrs tag.pairs w.scope in
     record w {
-      lines = work.with_tag (tag_label inside tag.name) (attr_labels inside tag.pairs) w.lines w.open_at;
+      lines = work.with_tag (tag_label inside tag.name tag.pairs) (attr_labels inside tag.pairs) w.lines w.open_at;
       scope = inside;
       outer = w.scope ∷ w.outer;
       fault = work.or_first w.fault (work.tag_fault inside tag);

@@ -1,22 +1,13 @@
 -- Prefixes in scope, with the numbers of their URIs.
-use Rattle.std.specs.Prelude.{ℕ, ◌<◌, ◌≤◌, List, [], ◌∷◌, map, reverse, take, Option, Some, None, if◌then◌else◌}
-use Rattle.std.specs.Str.{bytes_eq}
+use Rattle.std.specs.Prelude.{ℕ, ◌-◌, ◌<◌, ◌≤◌, List, [], ◌∷◌, drop, length, map}
 use Rattle.tree_model.specs.XmlMeaning.{Pair, Scope}
+use Rattle.prefix_scopes.specs.Scoping.{Numbering}
 use Rattle.xml_rows.specs.Numbers.{uri_at}
-use Rattle.xml_rows.specs.declared.scope.Bound.{Bound}
-
--- a prefix, and the number of its URI
-abbrev pub Numbering : Type 0
-Numbering = List ℕ × ℕ
 
 -- the prefixes in scope, and those outside of each open element; the innermost stands first
 pub record Scoped : Type 0 where
   pub scope : List Numbering
   pub outer : List (List Numbering)
-
-abbrev pub number_of : List ℕ → List Numbering → Option ℕ
-number_of prefix [] = None
-number_of prefix (bound ∷ scope) = if bytes_eq bound.0 prefix then Some bound.1 else number_of prefix scope
 
 abbrev pub binding : List ℕ → List ℕ → Pair
 binding prefix uri = (prefix, uri)
@@ -39,17 +30,15 @@ EachAreUris count (scope ∷ outer) = AreUris count scope × EachAreUris count o
 
 -- ---- as the code keeps them
 
-abbrev pub numbering_of : Bound → Numbering
-numbering_of bound = (bound.prefix.now, bound.uri)
+-- so many bindings, from the outermost on
+abbrev pub outermost : ℕ → List Numbering → List Numbering
+outermost n scope = drop (length scope - n) scope
 
-abbrev pub scope_of : List Bound → List Numbering
-scope_of bounds = map numbering_of (reverse bounds)
+-- what was in scope outside of each open element
+abbrev pub outer_of : List Numbering → List ℕ → List (List Numbering)
+outer_of scope lens = map (λ n. outermost n scope) lens
 
--- each open element's scope is a front of the bounds
-abbrev pub outer_of : List Bound → List ℕ → List (List Numbering)
-outer_of bounds lens = map (λ n. scope_of (take n bounds)) lens
-
--- none of the fronts is longer than the one inside
+-- none of them is longer than the one inside
 abbrev pub AreNested : ℕ → List ℕ → Type 0
 AreNested len [] = Unit {0}
 AreNested len (n ∷ lens) = (n ≤ len) × AreNested n lens

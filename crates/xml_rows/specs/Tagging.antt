@@ -1,10 +1,11 @@
 -- The attributes of a tag, as the code keeps them.
-use Rattle.std.specs.Prelude.{◌≡◌, ℕ, ◌+◌, ◌≤◌, true, List, [], ◌∷◌, length, map, Option, Some, None, if◌then◌else◌}
-use Rattle.std.specs.Str.{IsUtf8}
+use Rattle.std.specs.Prelude.{◌≡◌, ℕ, ◌+◌, ◌≤◌, true, List, [], ◌∷◌, codes, length, map, Option, Some, None, if◌then◌else◌}
+use Rattle.std.specs.Str.{bytes_eq, IsUtf8}
+use Rattle.tree_model.specs.Declarations.{Binding, declarations_value}
 use Rattle.tree_model.specs.Rows.{value_at}
 use Rattle.tree_model.specs.XmlChars.{is_xml_qname}
 use Rattle.tree_model.specs.XmlMeaning as meaning
-use Rattle.tree_model.specs.XmlMeaning.{Scope, is_declaration, declared_prefix, expanded}
+use Rattle.tree_model.specs.XmlMeaning.{Scope, is_declaration, declared_prefix, kept_declarations, expanded}
 use Rattle.xml_rows.specs.Numbers.{uri_at}
 use Rattle.xml_rows.specs.declared.tag.Pair.{Pair}
 use Rattle.xml_rows.specs.declared.tag.Expanded.{Expanded}
@@ -19,6 +20,14 @@ pair_of values pair = (pair.name.now, value_at values pair.val)
 
 abbrev pub pairs_of : List ℕ → List Pair → List meaning.Pair
 pairs_of values pairs = map (pair_of values) pairs
+
+-- what an element keeps of one declaration: nothing of that of `xml`
+abbrev pub kept_binding : List ℕ → List ℕ → List Binding
+kept_binding prefix uri = if bytes_eq prefix (codes "xml") then [] else (prefix, uri) ∷ []
+
+-- the text of the declarations that an element keeps of its tag
+abbrev pub kept_value : List ℕ → List Pair → List ℕ
+kept_value values pairs = declarations_value (kept_declarations (pairs_of values pairs))
 
 -- each value lies among the bytes and is text, and each name is one
 pub record IsPair (values : List ℕ) (pair : Pair) : Type 0 where

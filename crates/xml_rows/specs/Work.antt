@@ -106,7 +106,7 @@ works_at strip (in_tag tag) w (attr_token gap key before behind delim) = record 
 works_at strip (in_tag tag) w (go_token gap) =
     let inside = with_attrs tag.pairs w.scope in
     record w {
-      lines = with_tag (tag_label inside tag.name) (attr_labels inside tag.pairs) w.lines w.open_at;
+      lines = with_tag (tag_label inside tag.name tag.pairs) (attr_labels inside tag.pairs) w.lines w.open_at;
       open_at = length w.lines ∷ w.open_at;
       scope = inside;
       outer = w.scope ∷ w.outer;
@@ -116,7 +116,7 @@ works_at strip (in_tag tag) w (go_token gap) =
 works_at strip (in_tag tag) w (shut_token gap) =
     let inside = with_attrs tag.pairs w.scope in
     record w {
-      lines = with_tag (tag_label inside tag.name) (attr_labels inside tag.pairs) w.lines w.open_at;
+      lines = with_tag (tag_label inside tag.name tag.pairs) (attr_labels inside tag.pairs) w.lines w.open_at;
       fault = or_first w.fault (tag_fault inside tag);
       doing = in_content;
     }

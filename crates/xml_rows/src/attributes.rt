@@ -3,13 +3,14 @@ ghost use Rattle.std.specs.Prelude.{◌≡◌, ◌+◌, ◌-◌, ◌<◌, ◌≤
 ghost use Rattle.std.specs.Option.{is_none};
 ghost use Rattle.tree_model.specs.Forest.{attr_lines};
 ghost use Rattle.tree_model.specs.Labels.{numbered_attrs};
-ghost use Rattle.tree_model.specs.Rows.{lines_of, ArePlaced};
+ghost use Rattle.tree_model.specs.Rows.{value_at, lines_of, ArePlaced};
 ghost use Rattle.tree_model.specs.XmlChars.{is_xml_qname};
 ghost use Rattle.tree_model.specs.XmlMeaning as meaning;
 ghost use Rattle.xml_rows.specs.Numbers.{Begins};
 ghost use Rattle.xml_rows.specs.Scoping.{AreUris, scope_in};
 ghost use Rattle.xml_rows.specs.Table.{element_line};
 ghost use Rattle.xml_rows.specs.Tagging.{pair_of, pairs_of, all_expanded, expanded_all, AreNamed, AreWithin};
+ghost use Rattle.xml_rows.specs.Texts.{valued_label};
 ghost use Rattle.xml_rows.specs.Work.{top, leaf};
 
 use crate::declarations::is_declaration;
@@ -17,11 +18,12 @@ use crate::names::Names;
 use crate::rows::Rows;
 use crate::scope::Scopes;
 use crate::tag::{Expanded, Pair};
-use tree_model::NoMemory;
+use tree_model::{Kind, NoMemory, ValueRef};
 
-/// The row of an element that has some attributes. Says whether its prefix isn't in scope.
+/// The row of an element that has a value and some attributes. Says whether its prefix isn't in scope.
 pub fn add_element<'a>(
     name: &'a [u8],
+    val: ValueRef,
     attributes: usize,
     scopes: &Scopes<'a>,
     names: &mut Names<'a>,
@@ -32,15 +34,15 @@ pub fn add_element<'a>(
     requires uris { AreUris (length names.old.uris) scopes.now.scope }
     ensures unbound { IfOk result (λ unbound. unbound ≡ is_none (meaning.element_uri (scope_in names.old.uris scopes.now.scope) name.now)) }
     ensures lines { OnOk result ((values : List ℕ) → ArePlaced names.old.names values rows.old.rows → lines_of names.new.names values rows.new.rows
-        ≡ lines_of names.old.names values rows.old.rows ++ element_line (length rows.old.rows) (length rows.old.rows - top rows.old.open_at) (meaning.tag_label (scope_in names.old.uris scopes.now.scope) name.now) attributes ∷ []) }
-    ensures placed { OnOk result ((values : List ℕ) → ArePlaced names.old.names values rows.old.rows → ArePlaced names.new.names values rows.new.rows) }
+        ≡ lines_of names.old.names values rows.old.rows ++ element_line (length rows.old.rows) (length rows.old.rows - top rows.old.open_at) (valued_label Kind.Elem (meaning.element_name (scope_in names.old.uris scopes.now.scope) name.now) (value_at values val)) attributes ∷ []) }
+    ensures placed { OnOk result ((values : List ℕ) → ArePlaced names.old.names values rows.old.rows → val.at + val.len ≤ length values → ArePlaced names.new.names values rows.new.rows) }
     ensures open_at { OnOk result (rows.new.open_at ≡ rows.old.open_at) }
     ensures len { OnOk result (length rows.new.rows ≡ length rows.old.rows + 1) }
     ensures uris_kept { names.new.uris ≡ names.old.uris }
 {
     let uri = scopes.element_uri(name);
     let number = names.number(uri.unwrap_or(names.no_uri()), name)?;
-    rows.add_element(number, attributes)?;
+    rows.add_element(number, val, attributes)?;
     Ok(uri.is_none())
 }
 

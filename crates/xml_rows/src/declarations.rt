@@ -1,18 +1,20 @@
 // The declarations of a tag.
-ghost use Rattle.std.specs.Prelude.{◌≡◌, ◌++◌, ◌∷◌, [], ℕ, ◌<◌, List, length, map, true, codes, IfOk, IfSome, OnOk};
+ghost use Rattle.std.specs.Prelude.{◌≡◌, ◌+◌, ◌++◌, ◌∷◌, [], ℕ, ◌<◌, ◌≤◌, List, length, map, true, codes, IfOk, IfSome, OnOk};
 ghost use Rattle.std.specs.Option.{option_map};
 ghost use Rattle.std.specs.Str.{bytes_eq, IsUtf8};
+ghost use Rattle.tree_model.specs.Declarations.{declarations_value};
+ghost use Rattle.tree_model.specs.Rows.{value_at};
 ghost use Rattle.tree_model.specs.XmlMeaning as meaning;
 ghost use Rattle.xml_rows.specs.Numbers.{Begins};
 ghost use Rattle.xml_rows.specs.Scoping.{AreUris, scope_in};
-ghost use Rattle.xml_rows.specs.Tagging.{declared_of, pairs_of, ArePairs};
+ghost use Rattle.xml_rows.specs.Tagging.{declared_of, kept_binding, kept_value, pairs_of, ArePairs};
 ghost use Rattle.xml_rows.specs.Words.{now};
 
 use crate::names::{Names, split};
 use crate::scope::Scopes;
 use crate::tag::Pair;
 use crate::values::Values;
-use tree_model::NoMemory;
+use tree_model::{NoMemory, ValueRef};
 
 pub const XML_URI: &[u8] = b"http://www.w3.org/XML/1998/namespace";
 
@@ -52,17 +54,23 @@ pub fn is_declaration(name: &[u8]) -> bool
     declared(name).is_some()
 }
 
+fn is_xml(prefix: &[u8]) -> bool
+    ensures { result ≡ bytes_eq prefix.now (codes "xml") }
+{
+    prefix == b"xml".as_slice()
+}
+
 /// Whether a prefix may not be bound to a URI.
 #[tactic(auto, unfolding(tree_model::specs::XmlMeaning::is_bad_binding))]
 fn is_bad_binding(prefix: &[u8], uri: &[u8]) -> bool
     ensures { result ≡ meaning.is_bad_binding prefix.now uri.now }
 {
-    let is_xml = if prefix == b"xml".as_slice() {
+    let is_bad_xml = if is_xml(prefix) {
         uri != XML_URI
     } else {
         uri == XML_URI
     };
-    is_xmlns(prefix) || uri == XMLNS_URI || is_xml || (!prefix.is_empty() && uri.is_empty())
+    is_xmlns(prefix) || uri == XMLNS_URI || is_bad_xml || (!prefix.is_empty() && uri.is_empty())
 }
 
 // Binds a prefix to the URI that a value is. Says whether it may not be bound to it.
@@ -86,6 +94,21 @@ fn bind<'a>(
     Ok(is_bad_binding(prefix, uri))
 }
 
+// What an element keeps of a declaration, behind the text of those before it.
+fn keep(prefix: &[u8], uri: ValueRef, values: &mut Values) -> Result<(), NoMemory>
+    requires within { uri.at + uri.len ≤ length values.old.settled }
+    ensures settled { values.new.settled ≡ values.old.settled }
+    ensures pending { OnOk result (values.new.pending ≡ values.old.pending ++ declarations_value (kept_binding prefix.now (value_at values.old.settled uri))) }
+{
+    if is_xml(prefix) {
+        return Ok(());
+    }
+    values.add(prefix)?;
+    values.add(&[0])?;
+    values.add_copy(uri)?;
+    values.add(&[0])
+}
+
 /// What the declarations of a tag are: whether one of them may not be, and how many attributes are none.
 #[derive(Clone, Copy)]
 pub struct Declarations {
@@ -93,18 +116,21 @@ pub struct Declarations {
     pub plain: usize,
 }
 
-/// Puts the declarations of a tag into scope.
+/// Puts the declarations of a tag into scope, and gathers the text of those that its element keeps.
 pub fn declare<'a>(
     pairs: &[Pair<'a>],
-    values: &Values,
+    values: &mut Values,
     names: &mut Names<'a>,
     scopes: &mut Scopes<'a>,
 ) -> Result<Declarations, NoMemory>
-    requires pairs { ArePairs values.now.settled pairs.now }
+    requires none { values.old.pending ≡ [] }
+    requires pairs { ArePairs values.old.settled pairs.now }
     requires uris { AreUris (length names.old.uris) scopes.old.scope }
-    ensures bad { IfOk result (λ d. d.is_bad ≡ meaning.has_bad_binding (pairs_of values.now.settled pairs.now)) }
-    ensures plain { IfOk result (λ d. d.plain ≡ length (meaning.plain_attrs (pairs_of values.now.settled pairs.now))) }
-    ensures scope { OnOk result (scope_in names.new.uris scopes.new.scope ≡ meaning.with_attrs (pairs_of values.now.settled pairs.now) (scope_in names.old.uris scopes.old.scope)) }
+    ensures bad { IfOk result (λ d. d.is_bad ≡ meaning.has_bad_binding (pairs_of values.old.settled pairs.now)) }
+    ensures plain { IfOk result (λ d. d.plain ≡ length (meaning.plain_attrs (pairs_of values.old.settled pairs.now))) }
+    ensures settled { OnOk result (values.new.settled ≡ values.old.settled) }
+    ensures kept { OnOk result (values.new.pending ≡ kept_value values.old.settled pairs.now) }
+    ensures scope { OnOk result (scope_in names.new.uris scopes.new.scope ≡ meaning.with_attrs (pairs_of values.old.settled pairs.now) (scope_in names.old.uris scopes.old.scope)) }
     ensures outer { OnOk result (scopes.new.outer ≡ scopes.old.outer) }
     ensures names { OnOk result (names.new.names ≡ names.old.names) }
     ensures grown { OnOk result (Begins names.old.uris names.new.uris) }
@@ -118,6 +144,7 @@ pub fn declare<'a>(
             continue;
         };
         is_bad |= bind(prefix, values.get(pair.val), names, scopes)?;
+        keep(prefix, pair.val, values)?;
     }
     Ok(Declarations { is_bad, plain })
 }

@@ -102,11 +102,16 @@ impl Rows {
     }
 
     /// The row of an element, before the rows of its attributes.
-    pub fn add_element(&mut self, name: u64, attributes: usize) -> Result<(), NoMemory>
+    pub fn add_element(
+        &mut self,
+        name: u64,
+        val: ValueRef,
+        attributes: usize,
+    ) -> Result<(), NoMemory>
         requires few { length self.old.rows + attributes + 1 < 2 ^ 32 }
         ensures lines { OnOk result ((names : List Name) (values : List ℕ) → lines_of names values self.new.rows
-            ≡ lines_of names values self.old.rows ++ element_line (length self.old.rows) (length self.old.rows - top self.old.open_at) (label_at names values Kind.Elem name (record { at = 0; len = 0 })) attributes ∷ []) }
-        ensures placed { OnOk result ((names : List Name) (values : List ℕ) → ArePlaced names values self.old.rows → name < length names → ArePlaced names values self.new.rows) }
+            ≡ lines_of names values self.old.rows ++ element_line (length self.old.rows) (length self.old.rows - top self.old.open_at) (label_at names values Kind.Elem name val) attributes ∷ []) }
+        ensures placed { OnOk result ((names : List Name) (values : List ℕ) → ArePlaced names values self.old.rows → name < length names → val.at + val.len ≤ length values → ArePlaced names values self.new.rows) }
         ensures open_at { OnOk result (self.new.open_at ≡ self.old.open_at) }
         ensures len { OnOk result (length self.new.rows ≡ length self.old.rows + 1) }
     {
@@ -120,7 +125,7 @@ impl Rows {
             size,
             asize: size,
             id: place as u32,
-            val: ValueRef { at: 0, len: 0 },
+            val,
         })?;
         Ok(())
     }

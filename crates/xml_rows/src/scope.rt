@@ -7,37 +7,32 @@ ghost use Rattle.xml_rows.specs.Numbers.{uri_at};
 
 use crate::declarations::is_xmlns;
 use crate::names::split;
+use prefix_scopes::PrefixScopes;
 use std::alloc::Global;
 use std::marker::Model;
 use tree_model::NoMemory;
 
-/// A prefix, and the number of its URI.
-#[derive(Clone, Copy)]
-pub struct Bound<'a> {
-    pub prefix: &'a [u8],
-    pub uri: usize,
-}
-
-/// The prefixes in scope, the innermost last, and how many were in scope outside of each open element.
+/// The prefixes in scope with the numbers of their URIs, and how many were in scope outside of each open element.
 #[derive(Drop)]
 pub struct Scopes<'a> {
-    bounds: Vec<Bound<'a>>,
+    prefixes: PrefixScopes<'a>,
     outer: Vec<usize>,
 }
 
 impl<'a> Model for Scopes<'a> {
     ghost use Rattle.std.specs.Prelude.{length, reverse};
-    ghost use Rattle.xml_rows.specs.Scoping.{Scoped, scope_of, outer_of, AreNested};
+    ghost use Rattle.xml_rows.specs.Scoping.{Scoped, outer_of, AreNested};
 
     ghost Value = { Scoped };
 
-    ghost view = { λ s. record { scope = scope_of s.bounds.items; outer = outer_of s.bounds.items (reverse s.outer.items) } };
+    ghost view = { λ s. record { scope = s.prefixes; outer = outer_of s.prefixes (reverse s.outer.items) } };
 
-    ghost invariant = { λ s. AreNested (length s.bounds.items) (reverse s.outer.items) };
+    ghost invariant = { λ s. AreNested (length s.prefixes) (reverse s.outer.items) };
 }
 
 impl<'a> Scopes<'a> {
-    ghost use Rattle.xml_rows.specs.Scoping.{number_of, scope_in, AreUris};
+    ghost use Rattle.prefix_scopes.specs.Scoping.{number_of};
+    ghost use Rattle.xml_rows.specs.Scoping.{scope_in, AreUris};
     ghost use Rattle.xml_rows.specs.Leaving.{inner_of, outer_less};
 
     /// No prefixes. Takes no memory.
@@ -46,7 +41,7 @@ impl<'a> Scopes<'a> {
         ensures outer { result.outer ≡ [] }
     {
         Scopes {
-            bounds: Vec::new(alloc),
+            prefixes: PrefixScopes::new(alloc),
             outer: Vec::new(alloc),
         }
     }
@@ -56,7 +51,7 @@ impl<'a> Scopes<'a> {
         ensures scope { OnOk result (self.new.scope ≡ (prefix.now, uri) ∷ self.old.scope) }
         ensures outer { OnOk result (self.new.outer ≡ self.old.outer) }
     {
-        self.bounds.push(Bound { prefix, uri })?;
+        self.prefixes.bind(prefix, uri)?;
         Ok(())
     }
 
@@ -64,15 +59,7 @@ impl<'a> Scopes<'a> {
     pub fn find(&self, prefix: &[u8]) -> Option<usize>
         ensures { result ≡ number_of prefix.now self.now.scope }
     {
-        let mut at = self.bounds.len();
-        while at > 0 {
-            at -= 1;
-            let bound = self.bounds[at];
-            if bound.prefix == prefix {
-                return Some(bound.uri);
-            }
-        }
-        None
+        self.prefixes.find(prefix)
     }
 
     /// What is bound from here on is so in the next element alone.
@@ -80,7 +67,7 @@ impl<'a> Scopes<'a> {
         ensures scope { OnOk result (self.new.scope ≡ self.old.scope) }
         ensures outer { OnOk result (self.new.outer ≡ self.old.scope ∷ self.old.outer) }
     {
-        self.outer.push(self.bounds.len())?;
+        self.outer.push(self.prefixes.len())?;
         Ok(())
     }
 
@@ -90,7 +77,7 @@ impl<'a> Scopes<'a> {
         ensures outer { self.new.outer ≡ outer_less self.old.outer }
     {
         if let Some(len) = self.outer.pop() {
-            self.bounds.truncate(len);
+            self.prefixes.back_to(len);
         }
     }
 

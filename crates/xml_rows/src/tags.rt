@@ -51,7 +51,7 @@ impl<'a> Parts<'a> {
     {
         let is_bad = self
             .elements
-            .add_tag(self.tag.name, &self.tag.pairs, &self.values)?;
+            .add_tag(self.tag.name, &self.tag.pairs, &mut self.values)?;
         let fault = first_fault(tag_fault(is_bad, self.tag.from), self.tag.within);
         self.fault = first_fault(self.fault, fault);
         self.doing = Doing::Content;

@@ -218,10 +218,10 @@ fn namespaces(rt: HostRuntime) -> Result<(), Fail> {
         false,
     )?;
     let expected = "Doc 0 7 1 0 || \"\"\n\
-         Elem 1 6 3 1 u|p|a \"\"\n\
+         Elem 1 6 3 1 u|p|a \"p\\0u\\0\"\n\
          Attr 1 1 1 2 u|p|x \"1\"\n\
          Attr 2 1 1 3 ||x \"2\"\n\
-         Elem 3 2 1 4 d||b \"\"\n\
+         Elem 3 2 1 4 d||b \"\\0d\\0\"\n\
          Elem 1 1 1 5 d||c \"\"\n\
          Elem 5 1 1 6 ||b \"\"\n";
     assert_eq!(rt; rows.as_str(), expected);
@@ -234,7 +234,7 @@ fn a_prefix_out_of_scope(rt: HostRuntime) -> Result<(), Fail> {
     let expected = "Namespace(21)\n\
          Doc 0 4 1 0 || \"\"\n\
          Elem 1 3 1 1 ||r \"\"\n\
-         Elem 1 1 1 2 u|p|a \"\"\n\
+         Elem 1 1 1 2 u|p|a \"p\\0u\\0\"\n\
          Elem 2 1 1 3 |p|b \"\"\n";
     assert_eq!(rt; rows.as_str(), expected);
     Ok(())
@@ -248,8 +248,8 @@ fn a_prefix_bound_again(rt: HostRuntime) -> Result<(), Fail> {
         false,
     )?;
     let expected = "Doc 0 5 1 0 || \"\"\n\
-         Elem 1 4 1 1 ||a \"\"\n\
-         Elem 1 2 1 2 ||b \"\"\n\
+         Elem 1 4 1 1 ||a \"p\\0u\\0\"\n\
+         Elem 1 2 1 2 ||b \"p\\0v\\0\"\n\
          Elem 1 1 1 3 v|p|c \"\"\n\
          Elem 3 1 1 4 u|p|d \"\"\n";
     assert_eq!(rt; rows.as_str(), expected);
@@ -265,7 +265,7 @@ fn an_expanded_name_twice(rt: HostRuntime) -> Result<(), Fail> {
     )?;
     let expected = "Namespace(0)\n\
          Doc 0 4 1 0 || \"\"\n\
-         Elem 1 3 3 1 ||a \"\"\n\
+         Elem 1 3 3 1 ||a \"p\\0u\\0q\\0u\\0\"\n\
          Attr 1 1 1 2 u|p|x \"1\"\n\
          Attr 2 1 1 3 u|q|x \"2\"\n";
     assert_eq!(rt; rows.as_str(), expected);
@@ -278,7 +278,7 @@ fn bad_bindings(rt: HostRuntime) -> Result<(), Fail> {
     let expected = "Namespace(3)\n\
          Doc 0 3 1 0 || \"\"\n\
          Elem 1 2 1 1 ||r \"\"\n\
-         Elem 1 1 1 2 ||a \"\"\n";
+         Elem 1 1 1 2 ||a \"p\\0\\0\"\n";
     assert_eq!(rt; rows.as_str(), expected);
     Ok(())
 }

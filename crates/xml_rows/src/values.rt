@@ -52,6 +52,16 @@ impl Values {
         Ok(())
     }
 
+    /// The bytes of a value that is whole, once more, as bytes of the one that is being gathered.
+    pub fn add_copy(&mut self, val: ValueRef) -> Result<(), NoMemory>
+        requires within { val.at + val.len ≤ length self.old.settled }
+        ensures settled { self.new.settled ≡ self.old.settled }
+        ensures pending { OnOk result (self.new.pending ≡ self.old.pending ++ value_at self.old.settled val) }
+    {
+        self.heap.append_copy(val)?;
+        Ok(())
+    }
+
     /// The bytes of the value that is being gathered.
     pub fn pending(&self) -> &[u8]
         ensures { result.now ≡ self.now.pending }

@@ -7,7 +7,7 @@ use Rattle.axis_steps.proofs.keep.keep_first_ended.Goals as goal
 
 pub returns-in_ok-push-in-Some-clause-kept : goal.returns-in_ok-push-in-Some-clause-kept
 returns-in_ok-push-in-Some-clause-kept c =
-    let rows = c.args.trees.now.table.now in
+    let rows = c.args.reader.now in
     let keeps = rw c.in-Some.is at c.loop-place.invariant.keeps in
     let whole : Keeps rows Following c.args.places.now (c.in-Some.last.start ∷ c.loop-place.kept.items) =
     subst (λ (xs : List ℕ). Keeps rows Following xs (c.in-Some.last.start ∷ c.loop-place.kept.items)) (take_whole c.args.places.now c.loop-place.place-index c.loop-place-test.false) keeps in

@@ -1,5 +1,5 @@
-use Rattle.std.proofs.Common.{◌≡◌, ◌-◌, arith, refl, subst, sym}
-use Rattle.axis_steps.specs.Steps.{IsStanding}
+use Rattle.std.proofs.Common.{◌≡◌, [], ◌-◌, arith, refl, subst, sym}
+use Rattle.node_table.specs.Views.{view_of, KeepsTrees}
 use Rattle.axis_steps.proofs.TestRows.{chain, nested_rows, chain_step, push_two, all_pushed, nested_stands}
 use Rattle.axis_steps.proofs.tests.nested.Goals as goal
 
@@ -16,4 +16,4 @@ loop-left-preserved c =
 pub returns-clause-trees : goal.returns-clause-trees
 returns-clause-trees c = λ names h.
     let zero_left : c.loop-left.left ≡ 0 = omega (arith, c.loop-left-test.false) in
-    subst (λ rows. IsStanding names rows) (sym (all_pushed c.loop-left.rows.items (nested_rows c.args.count) chain c.loop-left.left refl zero_left c.loop-left.invariant.rows)) (nested_stands names h c.args.count)
+    subst (λ rows. KeepsTrees (view_of rows names [])) (sym (all_pushed c.loop-left.rows.items (nested_rows c.args.count) chain c.loop-left.left refl zero_left c.loop-left.invariant.rows)) (nested_stands names h c.args.count)

@@ -1,5 +1,5 @@
-use Rattle.std.proofs.Common.{◌≡◌, ◌+◌, ◌-◌, ◌*◌, arith, refl, subst, sym}
-use Rattle.axis_steps.specs.Steps.{IsStanding}
+use Rattle.std.proofs.Common.{◌≡◌, [], ◌+◌, ◌-◌, ◌*◌, arith, refl, subst, sym}
+use Rattle.node_table.specs.Views.{view_of, KeepsTrees}
 use Rattle.axis_steps.proofs.TestRows.{pairs, flat_rows, pairs_step, push_two, all_pushed, flat_stands}
 use Rattle.axis_steps.proofs.tests.side_by_side.Goals as goal
 
@@ -19,6 +19,6 @@ loop-left-preserved c =
 pub returns-clause-trees : goal.returns-clause-trees
 returns-clause-trees c = λ names h.
     let zero_left : c.loop-left.left ≡ 0 = omega (arith, c.loop-left-test.false) in
-    subst (λ rows. IsStanding names rows)
+    subst (λ rows. KeepsTrees (view_of rows names []))
     (sym (all_pushed c.loop-left.rows.items (flat_rows c.args.count) (pairs (2 * (c.args.count - c.loop-left.left) + 1)) c.loop-left.left refl zero_left c.loop-left.invariant.rows))
     (flat_stands names h c.args.count)

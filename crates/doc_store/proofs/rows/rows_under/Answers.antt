@@ -1,10 +1,10 @@
 use Rattle.std.proofs.Common.{◌≡◌, ◌++◌, ◌-◌, arith, length, length-append, ap, ◌∙◌}
-use Rattle.doc_import.specs.Imported.{built_lines}
+use Rattle.node_table.specs.Views.{part_view, view_lines}
 use Rattle.doc_store.specs.Moving.{moved}
 use Rattle.doc_store.proofs.Moves.{AreUnder, whole_heap, all_under}
 use Rattle.doc_store.proofs.rows.rows_under.Goals as goal
 
-under : (c : goal.After-drop-numbers-2) → AreUnder c.numbers_among.new.names c.append-2.new.self c.args.path.now c.args.first (built_lines c.args.built.now) c.set_first_value.new.rows.items
+under : (c : goal.After-drop-numbers-2) → AreUnder c.numbers_among.new.names c.append-2.new.self c.args.path.now c.args.first (view_lines (part_view c.args.built.now)) c.set_first_value.new.rows.items
 under c =
     let bytes : c.as_bytes.result.now ≡ c.args.path.now = cc in
     let grown : c.append.new.self ≡ c.args.heap.now ++ c.get.result.now = c.in_ok-append.ensures.grown in

@@ -1,11 +1,11 @@
-use Rattle.std.proofs.Common.{length}
+use Rattle.tree_model.specs.Forest.{count}
 use Rattle.doc_store.specs.Stored.{base_of}
 use Rattle.kernel_session.proofs.PathPlaces.{texts_written, rest_within}
 use Rattle.kernel_session.proofs.answers.push_nodes.Goals as goal
 
 pub push_node-requires-in-loop-place : goal.push_node-requires-in-loop-place
 push_node-requires-in-loop-place c =
-    record { within = rest_within c.args.places.now c.in-Some.rest.now c.in-Some.first.now (length c.args.database.now.rows) c.in-Some.ensures.cases.0 c.requires.within c.loop-place.place-index 0 c.loop-place-test.true }
+    record { within = rest_within c.args.places.now c.in-Some.rest.now c.in-Some.first.now (count (base_of c.args.database.now).documents) c.in-Some.ensures.cases.0 c.requires.within c.loop-place.place-index 0 c.loop-place-test.true }
 
 pub returns : goal.returns
 returns c =

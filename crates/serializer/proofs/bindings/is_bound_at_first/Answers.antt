@@ -2,7 +2,7 @@ use Rattle.std.proofs.Common.{◌∙◌, ap, sym}
 use Rattle.std.specs.Prelude.{if◌then◌else◌, false}
 use Rattle.std.specs.Str.{bytes_eq}
 use Rattle.tree_model.specs.Sound.{xml_uri}
-use Rattle.serializer.proofs.Declaring.{first_default, first_other}
+use Rattle.serializer.proofs.FirstScope.{first_default, first_other}
 use Rattle.serializer.proofs.bindings.is_bound_at_first.Goals as goal
 
 pub returns-then-is_empty : goal.returns-then-is_empty

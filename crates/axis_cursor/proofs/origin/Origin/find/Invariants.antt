@@ -5,10 +5,11 @@ use Rattle.frame_pool.specs.Meters.{HasRead}
 
 abbrev pub invariant-loop-place : goal.invariant-loop-place
 invariant-loop-place l = record {
-  ready : IsReady l.self.table.now l.self.axis l.self.context l.walk;
-  gave : to_come l.names l.self.table.now l.self.axis l.test l.self.context l.walk ≡ to_come l.names l.self.table.now l.self.axis l.test l.self.context l.fn.walk;
+  ready : IsReady l.fn.reader l.fn.self.axis l.fn.self.context l.walk;
+  gave : to_come l.names l.fn.reader l.fn.self.axis l.test l.fn.self.context l.walk ≡ to_come l.names l.fn.reader l.fn.self.axis l.test l.fn.self.context l.fn.walk;
+  rows : l.reader ≡ l.fn.reader;
   meter : HasRead l.fn.meter l.meter;
 }
 
 abbrev pub decreases-loop-place : goal.decreases-loop-place
-decreases-loop-place l = length (remaining l.self.table.now l.self.axis l.self.context l.walk)
+decreases-loop-place l = length (remaining l.fn.reader l.fn.self.axis l.fn.self.context l.walk)

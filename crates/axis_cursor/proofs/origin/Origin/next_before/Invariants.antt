@@ -5,9 +5,10 @@ use Rattle.axis_cursor.proofs.origin.Origin.next_before.Given as goal
 
 abbrev pub invariant-loop-at : goal.invariant-loop-at
 invariant-loop-at l = record {
-  at : IsAside l.self.table.now l.self.context l.at l.above;
+  at : IsAside l.fn.reader l.fn.self.context l.at l.above;
   back : l.at ≤ l.fn.at;
-  passed : (k : ℕ) → l.at ≤ k → k < l.fn.at → is_node_aside l.self.table.now l.self.context k ≡ false;
+  passed : (k : ℕ) → l.at ≤ k → k < l.fn.at → is_node_aside l.fn.reader l.fn.self.context k ≡ false;
+  rows : l.reader ≡ l.fn.reader;
   meter : HasRead l.fn.meter l.meter;
 }
 

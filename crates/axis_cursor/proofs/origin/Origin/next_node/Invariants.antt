@@ -5,9 +5,10 @@ use Rattle.axis_cursor.proofs.origin.Origin.next_node.Given as goal
 
 abbrev pub invariant-loop-at : goal.invariant-loop-at
 invariant-loop-at l = record {
-  at : IsAmong l.self.table.now l.at l.end;
+  at : IsAmong l.fn.reader l.at l.end;
   forth : l.fn.at ≤ l.at;
-  passed : (k : ℕ) → l.fn.at ≤ k → k < l.at → is_node l.self.table.now k ≡ false;
+  passed : (k : ℕ) → l.fn.at ≤ k → k < l.at → is_node l.fn.reader k ≡ false;
+  rows : l.reader ≡ l.fn.reader;
   meter : HasRead l.fn.meter l.meter;
 }
 

@@ -9,12 +9,14 @@ use Rattle.serializer.specs.Growth.{Grew}
 use Rattle.serializer.specs.Opened.{Ahead}
 use Rattle.serializer.proofs.node.Printer.push_node.Given as goal
 
-abbrev pub invariant-loop-bindings : goal.invariant-loop-bindings
-invariant-loop-bindings l = record {
-  ahead : (node : Node Label) → Contains (nodes (grove_of (lines_of l.self.names.now l.self.heap.now l.self.rows.now))) node → node.place ≡ l.top
-      → Ahead l.self.names.now (lines_of l.self.names.now l.self.heap.now l.self.rows.now) l.top l.at l.bindings l.out.items (l.fn.out.items ++ node_text node);
+abbrev pub invariant-loop-attrs : goal.invariant-loop-attrs
+invariant-loop-attrs l = record {
+  rows : l.rows ≡ l.fn.rows;
+  parents : l.parents ≡ l.fn.rows;
+  ahead : (node : Node Label) → Contains (nodes (grove_of (lines_of l.self.names.now l.self.heap.now l.fn.rows))) node → node.place ≡ l.top
+      → Ahead (lines_of l.self.names.now l.self.heap.now l.fn.rows) l.top l.at l.bindings l.out.items (l.fn.out.items ++ node_text node);
   kept : Grew l.fn.out.items l.out.items;
 }
 
-abbrev pub decreases-loop-bindings : goal.decreases-loop-bindings
-decreases-loop-bindings l = length l.self.rows.now - l.at
+abbrev pub decreases-loop-attrs : goal.decreases-loop-attrs
+decreases-loop-attrs l = length l.fn.rows - l.at

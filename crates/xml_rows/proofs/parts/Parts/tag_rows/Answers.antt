@@ -7,7 +7,7 @@ use Rattle.xml_rows.proofs.parts.Parts.tag_rows.Goals as goal
 pub returns-clause-work : goal.returns-clause-work
 returns-clause-work c =
     same_work _ _ (rw c.deref.ensures.value at (c.in_ok-is_bad.ensures.lines c.requires.tidy.placed)) c.in_ok-is_bad.ensures.open_at
-    (rw c.requires.doing (tag_ready _ _ c.args.self.now.values c.args.self.now.tag c.args.self.now.doing c.requires.doing c.requires.tidy.ready).1) (rw c.deref.ensures.value at c.in_ok-is_bad.ensures.scope)
+    (rw c.requires.doing c.in_ok-is_bad.ensures.pending) (rw c.deref.ensures.value at c.in_ok-is_bad.ensures.scope)
     (outer_entered c.args.self.now.elements.names.uris c.add_tag.new.self.names.uris c.args.self.now.elements.scopes.scope c.args.self.now.elements.scopes.outer c.add_tag.new.self.scopes.outer c.in_ok-is_bad.ensures.uris_more
     c.requires.tidy.uris c.requires.tidy.outer c.in_ok-is_bad.ensures.outer)
     refl
@@ -22,5 +22,5 @@ returns-clause-tidy c =
       uris = c.in_ok-is_bad.ensures.uris_kept;
       outer = each_entered c.args.self.now.elements.names.uris c.add_tag.new.self.names.uris c.args.self.now.elements.scopes.scope c.args.self.now.elements.scopes.outer c.add_tag.new.self.scopes.outer c.in_ok-is_bad.ensures.uris_more
           c.requires.tidy.uris c.requires.tidy.outer c.in_ok-is_bad.ensures.outer;
-      ready = omega (arith, kept.0.few, c.in_ok-is_bad.ensures.len, ap length c.deref.ensures.value, ap pending_count kept.1);
+      ready = omega (arith, kept.0.few, c.in_ok-is_bad.ensures.len, ap length c.deref.ensures.value, ap pending_count c.in_ok-is_bad.ensures.pending);
     }

@@ -1,0 +1,12 @@
+pub mod IdLists
+pub mod Putting
+pub mod Joined
+pub mod Joining
+pub mod SameRuns
+pub mod JoinedAlike
+pub mod Parts
+pub mod Counting
+pub mod Searching
+pub mod Changing
+pub mod Finding
+pub mod Pairs

@@ -1,0 +1,4 @@
+pub mod Sizes
+pub mod Sequences
+pub mod Directories
+pub mod Parts
