@@ -10,7 +10,7 @@ use Rattle.std.proofs.lemmas.Bool.Decides.{same_from_decides, Decides-and, Decid
 use Rattle.tree_model.specs.Axes.{attributes, below, subtree, is_inside, is_parent, are_siblings, are_together, is_on, passes, is_principal, is_reverse, has_name, directed, axis_nodes}
 use Rattle.tree_model.specs.Forest.{Forest, none, tree, count}
 use Rattle.tree_model.specs.Labels.{Label}
-use Rattle.tree_model.specs.Nodes.{Node, attr_nodes, nodes_from, nodes, tops_from, tops, children, is_among}
+use Rattle.tree_model.specs.Nodes.{Node, attr_nodes, nodes_from, nodes, root_nodes_from, root_nodes, children, is_among}
 use Rattle.tree_model.specs.Rows.{label_of}
 use Rattle.tree_model.specs.Sound.{is_attr}
 use Rattle.tree_model.specs.declared.axis.Axis.{Axis}
@@ -20,7 +20,7 @@ use Rattle.tree_model.specs.declared.axis.Test.TheVariants as test
 use Rattle.tree_model.specs.declared.row.Row.{Row}
 use Rattle.tree_model.specs.declared.text.Name.{Name}
 use Rattle.tree_model.proofs.Relations.{weight, inside_in}
-use Rattle.tree_model.proofs.Standing.{IsIn, in_append, in_left, in_right, tops_in, children_in, node_places}
+use Rattle.tree_model.proofs.Standing.{IsIn, in_append, in_left, in_right, roots_in, children_in, node_places}
 use Rattle.node_table.specs.Laid.{IsLaid, row_at, dist_at, size_at, is_attr_at, up}
 use Rattle.axis_cursor.specs.RowAxes.{is_up, is_in, is_child, are_children, root_of, stands_on, row_places, row_passes}
 use Rattle.node_table.specs.Views.{view_of, view_forest, KeepsTrees, places_of}
@@ -231,7 +231,7 @@ module _ (names : List Name) (values : List ℕ) (rows : List Row) (trees : Keep
 
   -- ---- trees
 
-  under_root : (n : ℕ) (g : Forest Label) (x : Node Label) → IsIn (nodes_from n g) x → (t : Node Label) × IsIn (tops_from n g) t × IsIn (subtree t) x
+  under_root : (n : ℕ) (g : Forest Label) (x : Node Label) → IsIn (nodes_from n g) x → (t : Node Label) × IsIn (root_nodes_from n g) t × IsIn (subtree t) x
   under_root n none x h = absurd h
   under_root n (tree label attrs kids rest) x (inl e) = (record { place = n; label = label; attrs = attrs; kids = kids }, inl refl, inl e)
   under_root n (tree label attrs kids rest) x (inr h) =
@@ -248,12 +248,12 @@ module _ (names : List Name) (values : List ℕ) (rows : List Row) (trees : Keep
       ]
 
   -- from a root on to its subtree's end it is the root
-  root_from : (t : Node Label) → IsIn (tops f) t → (p : ℕ) → t.place ≤ p → p < t.place + size_at rows t.place → root_of rows p ≡ t.place
+  root_from : (t : Node Label) → IsIn (root_nodes f) t → (p : ℕ) → t.place ≤ p → p < t.place + size_at rows t.place → root_of rows p ≡ t.place
   root_from t h zero le lt = omega arith
   root_from t h (suc p) le lt = by (λ le lt. root_from t h p le lt) (eqb_tells t.place (suc p))
     where
       k : IsIn (nodes f) t
-      k = tops_in 0 f t h
+      k = roots_in 0 f t h
 
       r : IsRowOf names values rows 0 t
       r = root_row names values rows trees t h
@@ -273,30 +273,30 @@ module _ (names : List Name) (values : List ℕ) (rows : List Row) (trees : Keep
   in_subtree t b h k (inl e) = let same : t.place ≡ b.place = ap (λ (y : Node Label). y.place) e in (omega arith, omega (arith, size_is t h))
   in_subtree t b h k (inr i) = let le = (inside_is t b h k).0 ((among f (attributes t ++ below t) (λ x j. inside_in 0 f t x h j) b k).1 i) in (omega (arith, le.0), le.1)
 
-  root_is : (t b : Node Label) → IsIn (tops f) t → IsIn (nodes f) b → IsIn (subtree t) b → root_of rows b.place ≡ t.place
-  root_is t b h k i = let at = in_subtree t b (tops_in 0 f t h) k i in root_from t h b.place at.0 at.1
+  root_is : (t b : Node Label) → IsIn (root_nodes f) t → IsIn (nodes f) b → IsIn (subtree t) b → root_of rows b.place ≡ t.place
+  root_is t b h k i = let at = in_subtree t b (roots_in 0 f t h) k i in root_from t h b.place at.0 at.1
 
   within_tree : (t x : Node Label) → IsIn (nodes f) t → IsIn (subtree t) x → IsIn (nodes f) x
   within_tree t x h (inl e) = subst (IsIn (nodes f)) e h
   within_tree t x h (inr i) = inside_in 0 f t x h i
 
-  in_tree : (t b : Node Label) → IsIn (tops f) t → IsIn (nodes f) b → Decides (is_among (subtree t) b) (IsIn (subtree t) b)
-  in_tree t b h k = among f (subtree t) (λ x i. within_tree t x (tops_in 0 f t h) i) b k
+  in_tree : (t b : Node Label) → IsIn (root_nodes f) t → IsIn (nodes f) b → Decides (is_among (subtree t) b) (IsIn (subtree t) b)
+  in_tree t b h k = among f (subtree t) (λ x i. within_tree t x (roots_in 0 f t h) i) b k
 
   together_test : (a b : Node Label) → IsIn (nodes f) a → IsIn (nodes f) b → are_together f a b ≡ nat_eq (root_of rows a.place) (root_of rows b.place)
   unfolding are_together
   together_test a b h k =
       same_from_decides (are_together f a b) (nat_eq (root_of rows a.place) (root_of rows b.place)) (
         λ e.
-            let t = any_found (λ root. is_among (subtree root) a && is_among (subtree root) b) (tops f) e in
+            let t = any_found (λ root. is_among (subtree root) a && is_among (subtree root) b) (root_nodes f) e in
             let both = and_parts (is_among (subtree t.0) a) (is_among (subtree t.0) b) t.2 in
             root_is t.0 a t.1 h ((in_tree t.0 a t.1 h).0 both.0) ∙ sym (root_is t.0 b t.1 k ((in_tree t.0 b t.1 k).0 both.1)),
         λ e.
             let t = under_root 0 f a h in
             let u = under_root 0 f b k in
             let same : (u.0).place ≡ (t.0).place = sym (root_is u.0 b u.1 k u.2) ∙ sym e ∙ root_is t.0 a t.1 h t.2 in
-            let one : u.0 ≡ t.0 = same_node f u.0 t.0 (tops_in 0 f u.0 u.1) (tops_in 0 f t.0 t.1) same in
-            any_there (λ root. is_among (subtree root) a && is_among (subtree root) b) (tops f) t.0 t.1
+            let one : u.0 ≡ t.0 = same_node f u.0 t.0 (roots_in 0 f u.0 u.1) (roots_in 0 f t.0 t.1) same in
+            any_there (λ root. is_among (subtree root) a && is_among (subtree root) b) (root_nodes f) t.0 t.1
             (and_from (is_among (subtree t.0) a) (is_among (subtree t.0) b) ((in_tree t.0 a t.1 h).1 t.2) ((in_tree t.0 b t.1 k).1 (subst (λ (x : Node Label). IsIn (subtree x) b) one u.2))),
       ) (decides_eq (root_of rows a.place) (root_of rows b.place))
 

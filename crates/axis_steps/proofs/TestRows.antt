@@ -3,7 +3,7 @@ use Rattle.std.proofs.Common.{◌≡◌, ℕ, zero, suc, ◌+◌, ◌*◌, ◌-�
 use Rattle.std.specs.List.{list_all}
 use Rattle.node_table.specs.Views.{view_of, is_no_attr, HasKinds, KeepsTrees}
 use Rattle.axis_cursor.proofs.Named.{is_placed, keeps_by_test}
-use Rattle.tree_model.specs.Sound.{AllTops}
+use Rattle.tree_model.specs.Sound.{AllRoots}
 use Rattle.tree_model.specs.Forest.{Forest, none, tree, count, Line, lines, flatten}
 use Rattle.tree_model.specs.Labels.{Label}
 use Rattle.tree_model.specs.Rows.{label_of, lines_of}
@@ -95,7 +95,7 @@ module _ (names : List Name) where
       let next : suc d + 2 ≡ suc (d + 2) = omega arith in
       ap (λ ls. line Elem 3 (suc d) 2 ∷ (line Elem 3 1 1 ∷ ls)) (ap (λ e. lines_of names [] (pairs e n)) next ∙ pair_lines (d + 2) n)
 
-  chain_plain : (n : ℕ) → AllTops is_no_attr (chain_trees n)
+  chain_plain : (n : ℕ) → AllRoots is_no_attr (chain_trees n)
   chain_plain zero = tt
   chain_plain (suc n) = (refl, tt)
 
@@ -103,7 +103,7 @@ module _ (names : List Name) where
   chain_kinds zero = tt
   chain_kinds (suc n) = (refl, (refl, chain_plain n), (refl, tt, tt, chain_kinds n), tt)
 
-  pair_plain : (n : ℕ) → AllTops is_no_attr (pair_trees n)
+  pair_plain : (n : ℕ) → AllRoots is_no_attr (pair_trees n)
   pair_plain zero = tt
   pair_plain (suc n) = (refl, pair_plain n)
 

@@ -13,17 +13,17 @@ use Rattle.tree_model.specs.Axes.{attributes, below, is_on, is_reverse, passes, 
 use Rattle.tree_model.specs.Forest.{Forest, count}
 use Rattle.tree_model.specs.Labels.{Label}
 use Rattle.tree_model.specs.Nodes.{Node, attr_nodes, nodes_from, nodes, children, is_among, is_place_among}
-use Rattle.tree_model.specs.Sound.{AllTops, is_attr}
+use Rattle.tree_model.specs.Sound.{AllRoots, is_attr}
 use Rattle.tree_model.specs.declared.axis.Axis.{Axis}
 use Rattle.tree_model.specs.declared.axis.Axis.TheVariants.{Child, Descendant, DescendantOrSelf}
 use Rattle.tree_model.specs.declared.axis.AxisStep.{AxisStep}
 use Rattle.tree_model.specs.declared.axis.Test.{Test}
 use Rattle.tree_model.specs.declared.axis.Test.TheVariants as tests
 use Rattle.tree_model.proofs.Relations.{has_parent, inside_in}
-use Rattle.tree_model.proofs.Standing.{IsIn, in_append, in_left, in_right, in_filter, in_from, in_contains, tops_in, children_in, node_places, places_in_order, in_order_in}
+use Rattle.tree_model.proofs.Standing.{IsIn, in_append, in_left, in_right, in_filter, in_from, in_contains, roots_in, children_in, node_places, places_in_order, in_order_in}
 use Rattle.node_table.specs.Views.{is_no_attr, HasKinds, places_of}
 use Rattle.node_table.proofs.Geometry.{clash}
-use Rattle.node_table.proofs.NodeRows.{one_there, same_node, own_kinds, tops_plain, attrs_marked}
+use Rattle.node_table.proofs.NodeRows.{one_there, same_node, own_kinds, roots_plain, attrs_marked}
 use Rattle.axis_cursor.specs.Trees.{node_at, axis_places, step_places}
 use Rattle.axis_cursor.proofs.Membership.{among}
 use Rattle.axis_steps.specs.Steps.{IsFirstStep, path_places}
@@ -102,12 +102,12 @@ attribute_bare n (a ∷ attrs) y x (inl e) c = let P : Node Label → Type 0 = �
 attribute_bare n (a ∷ attrs) y x (inr h) c = attribute_bare (suc n) attrs y x h c
 
 -- below a node what has children is no attribute
-parent_plain : (n : ℕ) (kids : Forest Label) (y x : Node Label) → AllTops is_no_attr kids → HasKinds kids → IsIn (nodes_from n kids) y → IsIn (children y) x → is_attr y.label ≡ false
+parent_plain : (n : ℕ) (kids : Forest Label) (y x : Node Label) → AllRoots is_no_attr kids → HasKinds kids → IsIn (nodes_from n kids) y → IsIn (children y) x → is_attr y.label ≡ false
 parent_plain n kids y x plain kinds h c =
     elim (has_parent n kids y h) [
-      | inl t ↦ tops_plain n kids y plain t
+      | inl t ↦ roots_plain n kids y plain t
       | inr z ↦ elim z.2 [
-        | inl k ↦ tops_plain ((z.0).place + (1 + length (z.0).attrs)) (z.0).kids y (own_kinds n kids z.0 kinds z.1).2 k
+        | inl k ↦ roots_plain ((z.0).place + (1 + length (z.0).attrs)) (z.0).kids y (own_kinds n kids z.0 kinds z.1).2 k
         | inr a ↦ absurd (attribute_bare ((z.0).place + 1) (z.0).attrs y x a c)
       ]
     ]
@@ -126,7 +126,7 @@ module _ (f : Forest Label) (kinds : HasKinds f) where
   down : (c m n : Node Label) → IsIn (nodes f) c → IsIn (nodes f) m → IsIn (nodes f) n → is_on f DescendantOrSelf c m ≡ true → is_on f Child m n ≡ true → is_on f Descendant c n ≡ true
   down c m n h k l to_m to_n =
       and_from (is_among (below c) n) (not (is_attr n.label)) ((below_decides c n h l).1 (by (or_cases (nat_eq c.place m.place) (is_among (below c) m && not (is_attr m.label)) to_m)))
-      (not_from_false (is_attr n.label) (tops_plain (m.place + (1 + length m.attrs)) m.kids n (own_kinds 0 f m kinds k).2 child))
+      (not_from_false (is_attr n.label) (roots_plain (m.place + (1 + length m.attrs)) m.kids n (own_kinds 0 f m kinds k).2 child))
     where
       child : IsIn (children m) n
       child = (child_decides m n k l).0 to_n
@@ -134,7 +134,7 @@ module _ (f : Forest Label) (kinds : HasKinds f) where
       by : (nat_eq c.place m.place ≡ true) ⊎ ((is_among (below c) m && not (is_attr m.label)) ≡ true) → IsIn (below c) n
       by (inl same) =
           let is : m ≡ c = same_node f m c k h (sym (eqb-true c.place m.place same)) in
-          subst (λ (x : Node Label). IsIn (below x) n) is (tops_in (m.place + (1 + length m.attrs)) m.kids n child)
+          subst (λ (x : Node Label). IsIn (below x) n) is (roots_in (m.place + (1 + length m.attrs)) m.kids n child)
       by (inr under) =
           let i = (below_decides c m h k).0 (and_parts (is_among (below c) m) (not (is_attr m.label)) under).0 in
           children_in (c.place + (1 + length c.attrs)) c.kids m n i child
@@ -155,7 +155,7 @@ module _ (f : Forest Label) (kinds : HasKinds f) where
       both : (is_among (below c) n ≡ true) × (not (is_attr n.label) ≡ true)
       both = and_parts (is_among (below c) n) (not (is_attr n.label)) e
 
-      kids : HasKinds c.kids × AllTops is_no_attr c.kids
+      kids : HasKinds c.kids × AllRoots is_no_attr c.kids
       kids = let own = own_kinds 0 f c kinds h in (own.0, own.2)
 
       parent : (y : Node Label) → IsIn (below c) y → IsIn (children y) n → (m : Node Label) × IsIn (nodes f) m × (is_on f DescendantOrSelf c m ≡ true) × (is_on f Child m n ≡ true)

@@ -3,6 +3,8 @@ use Rattle.std.specs.Prelude.{◌≡◌, ℕ, Bool, true, false, ◌||◌, List,
 use Rattle.std.specs.Option.{option_map}
 use Rattle.std.proofs.Common.{ap, sym, ◌∙◌}
 use Rattle.tree_model.specs.declared.axis.Axis.{Axis}
+use Rattle.tree_model.specs.declared.axis.Test.{Test}
+use Rattle.tree_model.specs.declared.function.Function.{Function}
 use Rattle.query_terms.specs.declared.parts.Span.{Span}
 use Rattle.query_terms.specs.declared.parts.QName.{QName}
 use Rattle.query_terms.specs.declared.parts.Literal.{Literal}
@@ -117,8 +119,8 @@ path_is span start first others = ap holds_constructor (sym (exprs.rolls-Path sp
 pub filter_is : (span : Span) (head : Expr) (predicates : List Expr) → holds_constructor (exprs.Filter span head predicates) ≡ holds_constructor head || some (map holds_constructor predicates)
 filter_is span head predicates = ap holds_constructor (sym (exprs.rolls-Filter span head predicates)) ∙ holds_roll (Expr-F.Filter span head predicates)
 
-pub axis_step_is : (span : Span) (axis : Axis) (test : NodeTest) → holds_constructor (exprs.AxisStep span axis test) ≡ false
-axis_step_is span axis test = ap holds_constructor (sym (exprs.rolls-AxisStep span axis test)) ∙ holds_roll (Expr-F.AxisStep span axis test)
+pub axis_step_is : (span : Span) (axis : Axis) (test : NodeTest) (tested : Option Test) → holds_constructor (exprs.AxisStep span axis test tested) ≡ false
+axis_step_is span axis test tested = ap holds_constructor (sym (exprs.rolls-AxisStep span axis test tested)) ∙ holds_roll (Expr-F.AxisStep span axis test tested)
 
 pub number_is : (span : Span) (text : List ℕ) → holds_constructor (exprs.Number span text) ≡ false
 number_is span text = ap holds_constructor (sym (exprs.rolls-Number span text)) ∙ holds_roll (Expr-F.Number span text)
@@ -154,7 +156,7 @@ computed_by_value_is span kind name scope body = ap holds_constructor (sym (expr
 pub computed_unnamed_is : (span : Span) (kind : UnnamedKind) (body : Expr) → holds_constructor (exprs.ComputedUnnamed span kind body) ≡ true
 computed_unnamed_is span kind body = ap holds_constructor (sym (exprs.rolls-ComputedUnnamed span kind body)) ∙ holds_roll (Expr-F.ComputedUnnamed span kind body)
 
-pub call_is : (span : Span) (name : QName) (arguments : List Expr) → holds_constructor (exprs.Call span name arguments) ≡ some (map holds_constructor arguments)
-call_is span name arguments = ap holds_constructor (sym (exprs.rolls-Call span name arguments)) ∙ holds_roll (Expr-F.Call span name arguments)
+pub call_is : (span : Span) (name : QName) (arguments : List Expr) (function : Option Function) → holds_constructor (exprs.Call span name arguments function) ≡ some (map holds_constructor arguments)
+call_is span name arguments function = ap holds_constructor (sym (exprs.rolls-Call span name arguments function)) ∙ holds_roll (Expr-F.Call span name arguments function)
 
 pub ruleset by_kind = (comma_is, flwor_is, quantified_is, if_is, insert_is, delete_is, replace_is, rename_is, or_is, and_is, comparison_is, range_is, additive_is, multiplicative_is, union_is, intersection_is, unary_is, root_is, path_is, filter_is, axis_step_is, number_is, string_is, variable_is, parenthesized_is, context_item_is, element_is, direct_comment_is, direct_instruction_is, computed_is, computed_by_value_is, computed_unnamed_is, call_is)

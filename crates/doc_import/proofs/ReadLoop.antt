@@ -64,7 +64,7 @@ given false m o e g = absurd (false≢true e)
 
 works_place : (strip : Bool) (w : Work) (t : Token) → (works strip w t).at ≡ w.at + length (token_text t)
 unfolding works
-works_place strip w t = ap (λ (n : ℕ). n + length (token_text t)) (place_stays strip w.doing w t)
+works_place strip w t = ap (λ (n : ℕ). n + length (token_text t)) (place_stays strip w.mode w t)
 
 pub goes_here : (strip : Bool) (at : ℕ) (body rest after : List ℕ) (w v : Work) (s m : Shape) (p : Where) (t : Token) (b : Bool) → IsRead strip at body w s rest → p ≡ where_at s.mode → Some (t, after) ≡ item p rest → b ≡ true → Gives b m (in_order s t)
     → v ≡ works strip w t → IsRead strip at body v m after

@@ -9,12 +9,12 @@ use Rattle.node_table.specs.Tables.{few_rows}
 use Rattle.node_table.proofs.NodeRows.{one_there, nodes_counted, root_row}
 use Rattle.tree_model.specs.Forest.{Forest, none, tree, count, top_count, Line, flatten}
 use Rattle.tree_model.specs.Labels.{Label}
-use Rattle.tree_model.specs.Nodes.{Node, nodes, tops_from, tops}
+use Rattle.tree_model.specs.Nodes.{Node, nodes, root_nodes_from, root_nodes}
 use Rattle.tree_model.specs.Rows.{line_of}
 use Rattle.tree_model.specs.declared.row.Row.{Row}
-use Rattle.tree_model.proofs.Standing.{IsIn, tops_in, place_below, node_places}
+use Rattle.tree_model.proofs.Standing.{IsIn, roots_in, place_below, node_places}
 use Rattle.tree_model.proofs.Tables.{placed_at}
-use Rattle.doc_store.specs.Places.{AreTreesBetween, trees_between, tops_between, Turn}
+use Rattle.doc_store.specs.Places.{AreTreesBetween, trees_between, roots_between, Turn}
 use Rattle.doc_store.specs.Stored.{Stored, stored_rows, stored_lines, base_of, IsKept}
 use Rattle.doc_store.proofs.Siblings.{between_is, turn, none_between}
 
@@ -89,19 +89,19 @@ passed d rows now at end row w same lt is = record {
 
 -- ---- what is listed and counted so far
 
-pub all_to_list : (d : Stored) (rows : List Row) (end : ℕ) → Walks d rows 0 end → tops_between (stored_lines d) 0 end ≡ places_of (tops (base_of d).documents)
-all_to_list d rows end w = ap (λ f. places_of (tops f)) (all_left d rows end w)
+pub all_to_list : (d : Stored) (rows : List Row) (end : ℕ) → Walks d rows 0 end → roots_between (stored_lines d) 0 end ≡ places_of (root_nodes (base_of d).documents)
+all_to_list d rows end w = ap (λ f. places_of (root_nodes f)) (all_left d rows end w)
 
-pub more_listed : (ls : List (Line Label)) (at end : ℕ) (line : Line Label) (places all : List ℕ) → Turn ls at end line → places ++ tops_between ls at end ≡ all → (places ++ at ∷ []) ++ tops_between ls (at + line.size) end ≡ all
+pub more_listed : (ls : List (Line Label)) (at end : ℕ) (line : Line Label) (places all : List ℕ) → Turn ls at end line → places ++ roots_between ls at end ≡ all → (places ++ at ∷ []) ++ roots_between ls (at + line.size) end ≡ all
 more_listed ls at end line places all t sofar =
-    append_assoc places (at ∷ []) (tops_between ls (at + line.size) end)
-    ∙ ap (λ n. places ++ at ∷ places_of (tops_from (at + n) (trees_between ls (at + line.size) end))) t.size
-    ∙ ap (λ f. places ++ places_of (tops_from at f)) (sym t.trees)
+    append_assoc places (at ∷ []) (roots_between ls (at + line.size) end)
+    ∙ ap (λ n. places ++ at ∷ places_of (root_nodes_from (at + n) (trees_between ls (at + line.size) end))) t.size
+    ∙ ap (λ f. places ++ places_of (root_nodes_from at f)) (sym t.trees)
     ∙ sofar
 
-pub all_listed : (ls : List (Line Label)) (at end : ℕ) (places all : List ℕ) → AreTreesBetween ls at end → end ≤ at → places ++ tops_between ls at end ≡ all → places ≡ all
+pub all_listed : (ls : List (Line Label)) (at end : ℕ) (places all : List ℕ) → AreTreesBetween ls at end → end ≤ at → places ++ roots_between ls at end ≡ all → places ≡ all
 all_listed ls at end places all w le sofar =
-    sym (append-nil places) ∙ ap (λ f. places ++ places_of (tops_from at f)) (sym (none_between ls at end w le)) ∙ sofar
+    sym (append-nil places) ∙ ap (λ f. places ++ places_of (root_nodes_from at f)) (sym (none_between ls at end w le)) ∙ sofar
 
 pub more_counted : (ls : List (Line Label)) (at end : ℕ) (line : Line Label) (n all : ℕ) → Turn ls at end line → n + top_count (trees_between ls at end) ≡ all → n + 1 + top_count (trees_between ls (at + line.size) end) ≡ all
 more_counted ls at end line n all t sofar = omega (arith, ap top_count t.trees)
@@ -116,24 +116,24 @@ top_count-le (tree a attrs kids rest) = omega (arith, top_count-le rest)
 
 -- ---- where documents stand
 
-pub length-tops : (n : ℕ) (f : Forest Label) → length (places_of (tops_from n f)) ≡ top_count f
-length-tops n none = refl
-length-tops n (tree a attrs kids rest) = ap suc (length-tops (n + (1 + length attrs + count kids)) rest)
+pub length-roots : (n : ℕ) (f : Forest Label) → length (places_of (root_nodes_from n f)) ≡ top_count f
+length-roots n none = refl
+length-roots n (tree a attrs kids rest) = ap suc (length-roots (n + (1 + length attrs + count kids)) rest)
 
 -- as many places as documents
-pub places_counted : (f : Forest Label) → length (places_of (tops f)) ≡ top_count f
-places_counted f = length-tops 0 f
+pub places_counted : (f : Forest Label) → length (places_of (root_nodes f)) ≡ top_count f
+places_counted f = length-roots 0 f
 
 -- the node at the place of a document is the document's
-pub document_there : (f : Forest Label) (node : Node Label) → IsIn (tops f) node → filter (λ (other : Node Label). nat_eq other.place node.place) (nodes f) ≡ node ∷ []
-document_there f node h = one_there 0 (count f) (nodes f) node (node_places 0 f) (tops_in 0 f node h)
+pub document_there : (f : Forest Label) (node : Node Label) → IsIn (root_nodes f) node → filter (λ (other : Node Label). nat_eq other.place node.place) (nodes f) ≡ node ∷ []
+document_there f node h = one_there 0 (count f) (nodes f) node (node_places 0 f) (roots_in 0 f node h)
 
 -- it stands within the rows
-pub document_within : (d : Stored) (node : Node Label) → IsKept d → IsIn (tops (base_of d).documents) node → node.place < length (stored_rows d)
-document_within d node h t = omega (arith, place_below (base_of d).documents node (tops_in 0 (base_of d).documents node t), rows_counted d h)
+pub document_within : (d : Stored) (node : Node Label) → IsKept d → IsIn (root_nodes (base_of d).documents) node → node.place < length (stored_rows d)
+document_within d node h t = omega (arith, place_below (base_of d).documents node (roots_in 0 (base_of d).documents node t), rows_counted d h)
 
 -- as the row of a root
-pub document_root : (d : Stored) (node : Node Label) → IsKept d → IsIn (tops (base_of d).documents) node → dist_at (stored_rows d) node.place ≡ 0
+pub document_root : (d : Stored) (node : Node Label) → IsKept d → IsIn (root_nodes (base_of d).documents) node → dist_at (stored_rows d) node.place ≡ 0
 document_root d node h t = (root_row d.names d.values (stored_rows d) h.trees node t).dist
 
 -- what holds of the place of each node holds of each of their places
@@ -142,10 +142,10 @@ all_places [] P each k d lt = absurd (omega arith)
 all_places (node ∷ found) P each zero d lt = each node (inl refl)
 all_places (node ∷ found) P each (suc k) d lt = all_places found P (λ other i. each other (inr i)) k d (omega arith)
 
-pub documents_within : (d : Stored) (places : List ℕ) → IsKept d → places ≡ places_of (tops (base_of d).documents) → All (λ place. place < length (stored_rows d)) places
+pub documents_within : (d : Stored) (places : List ℕ) → IsKept d → places ≡ places_of (root_nodes (base_of d).documents) → All (λ place. place < length (stored_rows d)) places
 documents_within d places h are =
-    subst (λ l. All (λ place. place < length (stored_rows d)) l) (sym are) (all_places (tops (base_of d).documents) (λ place. place < length (stored_rows d)) (λ node t. document_within d node h t))
+    subst (λ l. All (λ place. place < length (stored_rows d)) l) (sym are) (all_places (root_nodes (base_of d).documents) (λ place. place < length (stored_rows d)) (λ node t. document_within d node h t))
 
-pub documents_roots : (d : Stored) (places : List ℕ) → IsKept d → places ≡ places_of (tops (base_of d).documents) → All (λ place. dist_at (stored_rows d) place ≡ 0) places
+pub documents_roots : (d : Stored) (places : List ℕ) → IsKept d → places ≡ places_of (root_nodes (base_of d).documents) → All (λ place. dist_at (stored_rows d) place ≡ 0) places
 documents_roots d places h are =
-    subst (λ l. All (λ place. dist_at (stored_rows d) place ≡ 0) l) (sym are) (all_places (tops (base_of d).documents) (λ place. dist_at (stored_rows d) place ≡ 0) (λ node t. document_root d node h t))
+    subst (λ l. All (λ place. dist_at (stored_rows d) place ≡ 0) l) (sym are) (all_places (root_nodes (base_of d).documents) (λ place. dist_at (stored_rows d) place ≡ 0) (λ node t. document_root d node h t))

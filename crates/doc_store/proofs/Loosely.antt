@@ -9,7 +9,7 @@ use Rattle.std.proofs.lemmas.List.Folds.{list_all-append}
 use Rattle.tree_model.specs.Forest.{Forest, none, tree, walk, count, join}
 use Rattle.tree_model.specs.Ids.{ids_of}
 use Rattle.tree_model.specs.Labels.{Label, with_id, numbered_attrs, numbered}
-use Rattle.tree_model.specs.Sound.{AllTops, Kept, fits, bears, is_doc, is_elem, is_attr, is_loose_label, with_id_count, IsLoose}
+use Rattle.tree_model.specs.Sound.{AllRoots, Kept, fits, bears, is_doc, is_elem, is_attr, is_loose_label, with_id_count, IsLoose}
 use Rattle.tree_model.specs.Trees.{count-join}
 use Rattle.tree_model.proofs.Numbering.{with_id_count-append, with_id_count-cons, OnceWithin, numbered_once, numbered_below, count-numbered}
 
@@ -19,9 +19,9 @@ pub walk-join : {A : Type 0} (f g : Forest A) → walk (join f g) ≡ walk f ++ 
 walk-join none g = refl
 walk-join (tree a attrs kids rest) g = simp (append_assoc, walk-join rest g)
 
-tops_joined : {A : Type 0} (test : A → Bool) (f g : Forest A) → AllTops test f → AllTops test g → AllTops test (join f g)
-tops_joined test none g h k = k
-tops_joined test (tree a attrs kids rest) g h k = (h.0, tops_joined test rest g h.1 k)
+roots_joined : {A : Type 0} (test : A → Bool) (f g : Forest A) → AllRoots test f → AllRoots test g → AllRoots test (join f g)
+roots_joined test none g h k = k
+roots_joined test (tree a attrs kids rest) g h k = (h.0, roots_joined test rest g h.1 k)
 
 kept_joined : (f g : Forest Label) → Kept fits bears f → Kept fits bears g → Kept fits bears (join f g)
 kept_joined none g h k = k
@@ -29,9 +29,9 @@ kept_joined (tree label attrs kids rest) g h k = (h.0, h.1, h.2, kept_joined res
 
 -- ---- trees put among others
 
-tops_put : {A : Type 0} (test : A → Bool) (before doc after : Forest A) → AllTops test (join before after) → AllTops test doc → AllTops test (join before (join doc after))
-tops_put test none doc after h k = tops_joined test doc after k h
-tops_put test (tree a attrs kids rest) doc after h k = (h.0, tops_put test rest doc after h.1 k)
+roots_put : {A : Type 0} (test : A → Bool) (before doc after : Forest A) → AllRoots test (join before after) → AllRoots test doc → AllRoots test (join before (join doc after))
+roots_put test none doc after h k = roots_joined test doc after k h
+roots_put test (tree a attrs kids rest) doc after h k = (h.0, roots_put test rest doc after h.1 k)
 
 kept_put : (before doc after : Forest Label) → Kept fits bears (join before after) → Kept fits bears doc → Kept fits bears (join before (join doc after))
 kept_put none doc after h k = kept_joined doc after k h
@@ -92,15 +92,15 @@ bears_numbered m n label (a ∷ attrs) h =
     marked n [] h = refl
     marked n (a ∷ attrs) h = let both = and_parts (is_attr a) (list_all is_attr attrs) h in and_from _ _ both.0 (marked (suc n) attrs both.1)
 
-tops_numbered : (test : Label → Bool) → ((m : ℕ) (label : Label) → test label ≡ true → test (with_id m label) ≡ true) → (n : ℕ) (f : Forest Label) → AllTops test f → AllTops test (numbered n f)
-tops_numbered test same n none h = tt
-tops_numbered test same n (tree label attrs kids rest) h = (same n label h.0, tops_numbered test same (n + (1 + length attrs + count kids)) rest h.1)
+roots_numbered : (test : Label → Bool) → ((m : ℕ) (label : Label) → test label ≡ true → test (with_id m label) ≡ true) → (n : ℕ) (f : Forest Label) → AllRoots test f → AllRoots test (numbered n f)
+roots_numbered test same n none h = tt
+roots_numbered test same n (tree label attrs kids rest) h = (same n label h.0, roots_numbered test same (n + (1 + length attrs + count kids)) rest h.1)
 
 kept_numbered : (n : ℕ) (f : Forest Label) → Kept fits bears f → Kept fits bears (numbered n f)
 kept_numbered n none h = tt
 kept_numbered n (tree label attrs kids rest) h = (
   bears_numbered n (n + 1) label attrs h.0,
-  tops_numbered (fits label) (λ m child k. k) (n + (1 + length attrs)) kids h.1,
+  roots_numbered (fits label) (λ m child k. k) (n + (1 + length attrs)) kids h.1,
   kept_numbered (n + (1 + length attrs)) kids h.2,
   kept_numbered (n + (1 + length attrs + count kids)) rest h.3,
 )
@@ -125,7 +125,7 @@ nodes_numbered n (tree label attrs kids rest) =
 pub loose_put : (before doc after : Forest Label) (next m high : ℕ) → IsLoose (join before after) next → IsLoose doc m → high ≡ next + count doc → count (join before after) + count doc ≤ 2 ^ 24
     → IsLoose (join before (join (numbered next doc) after)) high
 loose_put before doc after next m high h k high_is few = record {
-  roots = tops_put is_doc before (numbered next doc) after h.roots (tops_numbered is_doc (λ n label t. t) next doc k.roots);
+  roots = roots_put is_doc before (numbered next doc) after h.roots (roots_numbered is_doc (λ n label t. t) next doc k.roots);
   places = kept_put before (numbered next doc) after h.places (kept_numbered next doc k.places);
   nodes = nodes_put before (numbered next doc) after h.nodes (nodes_numbered next doc ∙ k.nodes);
   ids_once = λ id. once id;

@@ -5,22 +5,22 @@ use Rattle.std.proofs.lemmas.Bool.{and_parts, and_from, false≢true}
 use Rattle.std.proofs.lemmas.List.Folds.{list_all-append}
 use Rattle.tree_model.specs.Forest.{Forest, none, tree, walk, count}
 use Rattle.tree_model.specs.Labels.{Label, with_id, numbered}
-use Rattle.tree_model.specs.Sound.{is_good_label, is_doc, is_elem, is_text, fits, owns, AllTops, Kept, begins_no_text, are_texts_apart, top_values, is_path, are_distinct, KeepsRules, IsSound}
+use Rattle.tree_model.specs.Sound.{is_good_label, is_doc, is_elem, is_text, fits, owns, AllRoots, Kept, begins_no_text, are_texts_apart, top_values, is_path, are_distinct, KeepsRules, IsSound}
 use Rattle.tree_model.specs.declared.row.Kind.{Kind}
 use Rattle.tree_model.specs.declared.row.Kind.TheVariants.{Doc, Elem, Text, Attr, Comm, Pi}
 use Rattle.tree_model.proofs.Numbering.{count-numbered, numbered_once, numbered_below}
-use Rattle.tree_model.proofs.XmlSoundForests.{is_child, IsSoundForest, sound_numbered, tops_fit}
+use Rattle.tree_model.proofs.XmlSoundForests.{is_child, IsSoundForest, sound_numbered, roots_fit}
 
 -- what documents keep but for their ids and paths
 record AreDocuments (f : Forest Label) : Type 0 where
-  tops : AllTops is_doc f
+  root_nodes : AllRoots is_doc f
   places : Kept fits owns f
   nodes : list_all is_good_label (walk f) ≡ true
   texts : are_texts_apart f ≡ true
 
-child_tops : (parent : Label) (f : Forest Label) → AllTops (fits parent) f → AllTops is_child f
-child_tops parent none h = tt
-child_tops parent (tree label attrs kids rest) h = ((and_parts (is_doc parent || is_elem parent) (is_child label) h.0).1, child_tops parent rest h.1)
+child_roots : (parent : Label) (f : Forest Label) → AllRoots (fits parent) f → AllRoots is_child f
+child_roots parent none h = tt
+child_roots parent (tree label attrs kids rest) h = ((and_parts (is_doc parent || is_elem parent) (is_child label) h.0).1, child_roots parent rest h.1)
 
 -- a document has no attributes
 bare : (label : Label) (attrs : List Label) → is_doc label ≡ true → owns label attrs ≡ true → attrs ≡ []
@@ -56,20 +56,20 @@ nodes_parts x kids rest h =
 
 documents_numbered : (n : ℕ) (f : Forest Label) → AreDocuments f → AreDocuments (numbered n f)
 documents_numbered n none h = h
-documents_numbered n (tree label (a ∷ attrs) kids rest) h = let e : (a ∷ attrs) ≡ [] = bare label (a ∷ attrs) h.tops.0 h.places.0 in absurd cc
+documents_numbered n (tree label (a ∷ attrs) kids rest) h = let e : (a ∷ attrs) ≡ [] = bare label (a ∷ attrs) h.root_nodes.0 h.places.0 in absurd cc
 documents_numbered n (tree label [] kids rest) h =
     let nodes = nodes_parts label (walk kids) (walk rest) h.nodes in
     let texts = and_parts ((not (is_text label) || begins_no_text rest) && are_texts_apart kids) (are_texts_apart rest) h.texts in
     let apart = and_parts (not (is_text label) || begins_no_text rest) (are_texts_apart kids) texts.0 in
-    let inner : IsSoundForest (numbered (n + (1 + 0)) kids) = sound_numbered (n + (1 + 0)) kids (record { tops = child_tops label kids h.places.1; places = h.places.2; nodes = nodes.1; texts = apart.1 }) in
-    let after : AreDocuments (numbered (n + (1 + 0 + count kids)) rest) = documents_numbered (n + (1 + 0 + count kids)) rest (record { tops = h.tops.1; places = h.places.3; nodes = nodes.2; texts = texts.1 }) in
+    let inner : IsSoundForest (numbered (n + (1 + 0)) kids) = sound_numbered (n + (1 + 0)) kids (record { root_nodes = child_roots label kids h.places.1; places = h.places.2; nodes = nodes.1; texts = apart.1 }) in
+    let after : AreDocuments (numbered (n + (1 + 0 + count kids)) rest) = documents_numbered (n + (1 + 0 + count kids)) rest (record { root_nodes = h.root_nodes.1; places = h.places.3; nodes = nodes.2; texts = texts.1 }) in
     record {
-      tops = (h.tops.0, after.tops);
-      places = (doc_owns (with_id n label) h.tops.0, tops_fit (with_id n label) (doc_fits (is_doc label) (is_elem label) h.tops.0) (numbered (n + (1 + 0)) kids) inner.tops, inner.places, after.places);
+      root_nodes = (h.root_nodes.0, after.root_nodes);
+      places = (doc_owns (with_id n label) h.root_nodes.0, roots_fit (with_id n label) (doc_fits (is_doc label) (is_elem label) h.root_nodes.0) (numbered (n + (1 + 0)) kids) inner.root_nodes, inner.places, after.places);
       nodes =
           and_from (is_good_label label) _ nodes.0
           (list_all-append is_good_label (walk (numbered (n + (1 + 0)) kids)) (walk (numbered (n + (1 + 0 + count kids)) rest)) ∙ and_from _ _ inner.nodes after.nodes);
-      texts = and_from _ _ (and_from _ _ (no_text label h.tops.0) inner.texts) after.texts;
+      texts = and_from _ _ (and_from _ _ (no_text label h.root_nodes.0) inner.texts) after.texts;
     }
   where
     doc_fits : (a b : Bool) → a ≡ true → (a || b) ≡ true
@@ -94,9 +94,9 @@ values_numbered n (tree label attrs kids rest) = ap (λ l. label.value ∷ l) (v
 -- with the ids n, n + 1 and so on, up to the next one
 pub rules_numbered : (n m next : ℕ) (f : Forest Label) → KeepsRules f m → n + count f ≤ next → KeepsRules (numbered n f) next
 rules_numbered n m next f h le =
-    let docs = documents_numbered n f (record { tops = h.roots; places = h.places; nodes = h.nodes; texts = h.texts }) in
+    let docs = documents_numbered n f (record { root_nodes = h.roots; places = h.places; nodes = h.nodes; texts = h.texts }) in
     record {
-      roots = docs.tops;
+      roots = docs.root_nodes;
       places = docs.places;
       nodes = docs.nodes;
       ids_once = λ id. (numbered_once id n f).most;

@@ -3,7 +3,7 @@ use Rattle.std.specs.Prelude.{◌≡◌, ℕ, ◌+◌, ◌-◌, List, ◌++◌, 
 use Rattle.node_table.specs.Views.{places_of}
 use Rattle.tree_model.specs.Forest.{Forest, tree, Line, count, lines, read_trees}
 use Rattle.tree_model.specs.Labels.{Label}
-use Rattle.tree_model.specs.Nodes.{tops_from}
+use Rattle.tree_model.specs.Nodes.{root_nodes_from}
 
 -- the lines from one place up to another are those of trees
 pub record AreTreesBetween (ls : List (Line Label)) (at end : ℕ) : Type 0 where
@@ -20,8 +20,8 @@ abbrev pub trees_between : List (Line Label) → ℕ → ℕ → Forest Label
 trees_between ls at end = read_trees (end - at) (take (end - at) (drop at ls))
 
 -- the places of these trees, without the nodes below them
-abbrev pub tops_between : List (Line Label) → ℕ → ℕ → List ℕ
-tops_between ls at end = places_of (tops_from at (trees_between ls at end))
+abbrev pub roots_between : List (Line Label) → ℕ → ℕ → List ℕ
+roots_between ls at end = places_of (root_nodes_from at (trees_between ls at end))
 
 -- the first of the trees has this line, and the others begin behind it
 pub record Turn (ls : List (Line Label)) (at end : ℕ) (line : Line Label) : Type 0 where

@@ -1,7 +1,7 @@
 // The documents of a database, by their places among the rows.
 ghost use Rattle.std.specs.Prelude.{◌≡◌, None, IfOk, IfSome, IfNone};
 ghost use Rattle.tree_model.specs.Forest.{top_count};
-ghost use Rattle.tree_model.specs.Nodes.{tops};
+ghost use Rattle.tree_model.specs.Nodes.{root_nodes};
 ghost use Rattle.tree_model.specs.States.{document_under};
 ghost use Rattle.node_table.specs.Views.{places_of};
 ghost use Rattle.doc_store.specs.Documents.{IsDocumentAt};
@@ -14,7 +14,7 @@ use tree_model::NoMemory;
 
 /// The places of the documents of a database. Of the rows below them none is read.
 pub fn document_places(alloc: Global, database: &Database) -> Result<Vec<u32>, NoMemory>
-    ensures { IfOk result (λ places. places.items ≡ places_of (tops (base_of database.now).documents)) }
+    ensures { IfOk result (λ places. places.items ≡ places_of (root_nodes (base_of database.now).documents)) }
 {
     let mut reader = database.table().reader(database.row_pool());
     let mut meter = Meter::new();

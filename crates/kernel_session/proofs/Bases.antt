@@ -8,12 +8,12 @@ use Rattle.std.proofs.lemmas.Bool.{and_parts, and_from, or_parts}
 use Rattle.std.proofs.lemmas.Bool.Decides.{same_from_decides}
 use Rattle.std.proofs.lemmas.Slice.Eq.{bytes_eq-Decides}
 use Rattle.std.proofs.lemmas.List.{drop_all, map-append, length-map}
-use Rattle.std.proofs.lemmas.List.Elements.{All-nil, All-cons, All-head, All-tail, All-append}
+use Rattle.std.proofs.lemmas.List.Elements.{All-nil, All-cons, All-head, All-tail, All-append, All-filter}
 use Rattle.tree_model.specs.Printed.{base_text, list_text}
 use Rattle.tree_model.specs.Sound.{are_distinct}
-use Rattle.tree_model.specs.States.{Base, without_name}
+use Rattle.tree_model.specs.States.{Base, is_base_name, without_name}
 use Rattle.doc_store.specs.Stored.{Stored, base_of}
-use Rattle.kernel_session.specs.Databases.{AreWhole}
+use Rattle.kernel_session.specs.Databases.{AreNamed, AreWhole}
 
 abbrev is_named : List ℕ → Base → Bool
 is_named name base = bytes_eq base.name name
@@ -131,6 +131,13 @@ put_distinct base (b ∷ bases) distinct = by (put_distinct base bases parts.1) 
     by : are_distinct (names_of (without_name base.name bases ++ base ∷ [])) ≡ true → (t : Bool) → is_named base.name b ≡ t → are_distinct (names_of (picked t b (without_name base.name bases) ++ base ∷ [])) ≡ true
     by more true e = more
     by more false e = and_from _ _ (ap not (none_passes (bytes_eq b.name) base bases (not_true _ parts.0) e)) more
+
+-- good names stay good
+pub put_named : (base : Base) (bases : List Base) → AreNamed bases → is_base_name base.name ≡ true → AreNamed (without_name base.name bases ++ base ∷ [])
+put_named base bases named good =
+    All-append (λ (b : Base). is_base_name b.name ≡ true) (without_name base.name bases) (base ∷ [])
+    (All-filter (λ (b : Base). not (bytes_eq b.name base.name)) (λ (b : Base). is_base_name b.name ≡ true) bases named)
+    (All-cons (λ (b : Base). is_base_name b.name ≡ true) base [] good (All-nil (λ (b : Base). is_base_name b.name ≡ true)))
 
 -- the last one is one of them
 pub last_within : (bases front : List Base) (base : Base) (len place : ℕ) → bases ≡ front ++ base ∷ [] → len ≡ length bases → Some (len - 1) ≡ Some place → place < length bases

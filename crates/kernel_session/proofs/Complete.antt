@@ -3,10 +3,13 @@ use Rattle.std.proofs.Common.{◌≡◌, ◌≢◌, inl, inr, ℕ, ◌+◌, ◌<
 use Rattle.std.specs.Prelude.{◌⊎◌}
 use Rattle.std.specs.Io.KnownBytes.{prepend_known}
 use Rattle.std.proofs.lemmas.List.Elements.{All-head, All-tail}
-use Rattle.outer_io.specs.Outer.{Rose}
+use Rattle.outer_io.specs.Outer.{Rose, SourceSeen, SinkSeen}
+use Rattle.commands.specs.declared.options.Options.{Options}
 use Rattle.kernel_session.specs.Lines.{IsOneLine}
-use Rattle.kernel_session.specs.Steps.{Workspace, IsExit}
-use Rattle.kernel_session.specs.Sessions.{AreLines, AllGoOn, joined, Ran, IsShort, number_of}
+use Rattle.kernel_session.specs.LineAnswers.{AllGoOn, IsExit, Right}
+use Rattle.kernel_session.specs.Replies.{Answer}
+use Rattle.kernel_session.specs.Sessions.{AreLines, joined, Ran, IsShort, number_of}
+use Rattle.kernel_session.specs.Workspaces.{Workspace}
 use Rattle.kernel_session.specs.declared.session.Status.{Status}
 use Rattle.kernel_session.specs.declared.session.Status.TheVariants.{Done, BadWords, ReadFault, WriteFault, NoMemory, TooManyBytes}
 use Rattle.kernel_session.proofs.Cuts.{apart, whole}
@@ -25,8 +28,18 @@ whole_length k ks rest = ap length (whole k (joined ks) rest) ∙ length-append 
 whole_then : (k : List ℕ) (ks : List (List ℕ)) (rest tail : List ℕ) → (joined (k ∷ ks) ++ rest) ++ tail ≡ k ++ 10 ∷ ((joined ks ++ rest) ++ tail)
 whole_then k ks rest tail = ap (λ x. x ++ tail) (whole k (joined ks) rest) ∙ append_assoc k (10 ∷ (joined ks ++ rest)) tail
 
+-- none of the lines is EXIT
+abbrev NoExit : List (List ℕ) → Type 0
+NoExit [] = Unit {0}
+NoExit (l ∷ ls) = (¬ IsExit l) × NoExit ls
+
+no_exit : (options : Options) (w w' : Workspace) (ls : List (List ℕ)) (answers : List (Option Answer)) → Right options w ls answers w' → AllGoOn options ls answers → NoExit ls
+no_exit options w w' [] answers right goes = tt
+no_exit options w w' (l ∷ ls) [] right goes = absurd right
+no_exit options w w' (l ∷ ls) (answer ∷ answers) right goes = (λ exits. goes.0 (inl exits), no_exit options right.0 w' ls answers right.2 goes.1)
+
 -- where no line so far ends the session, fewer bytes were taken than up to one that does
-reached : (ks : List (List ℕ)) (rest tail : List ℕ) (ls : List (List ℕ)) (l more : List ℕ) → AreLines ks → AllGoOn ks → IsOneLine rest → AreLines ls → IsOneLine l → IsExit l
+reached : (ks : List (List ℕ)) (rest tail : List ℕ) (ls : List (List ℕ)) (l more : List ℕ) → AreLines ks → NoExit ks → IsOneLine rest → AreLines ls → IsOneLine l → IsExit l
     → (joined ks ++ rest) ++ tail ≡ joined ls ++ (l ++ 10 ∷ more) → length (joined ks ++ rest) < length (joined ls ++ (l ++ 10 ∷ []))
 reached [] rest tail [] l more each goes one lines last ends is = omega (arith, front_short rest tail l more one is, length-append l (10 ∷ []))
 reached [] rest tail (m ∷ ls) l more each goes one lines last ends is =
@@ -42,33 +55,33 @@ known : (left left' : Option (List ℕ)) (bytes front : List ℕ) → left ≡ S
 known left None bytes front e taken = cc
 known left (Some tail) bytes front e taken = (tail, cc)
 
-not_too_many : (space space' : Workspace) (left left' : Option (List ℕ)) (reads reads' : ℕ) (old new : Option (List ℕ)) (writes writes' : ℕ) (bytes : List ℕ)
-    → Ran space space' left left' reads reads' old new writes writes' TooManyBytes → left ≡ Some bytes → IsShort bytes → ⊥
-not_too_many space space' left left' reads reads' old new writes writes' bytes r e short = by short
+not_too_many : (options : Options) (w w' : Workspace) (script script' : SourceSeen) (sink sink' : SinkSeen) (bytes : List ℕ) → Ran options w w' script script' sink sink' TooManyBytes → script.left ≡ Some bytes → IsShort bytes → ⊥
+not_too_many options w w' script script' sink sink' bytes r e short = by short
   where
     front : List ℕ
     front = joined r.lines ++ r.rest
 
     rest_of : (tail : List ℕ) × (bytes ≡ front ++ tail)
-    rest_of = known left left' bytes front e r.taken
+    rest_of = known script.left script'.left bytes front e r.taken
 
     by : IsShort bytes → ⊥
     by (inl few) = omega (arith, few, r.ended.0, ap length rest_of.1, length-append front rest_of.0)
     by (inr x) =
-        let less = reached r.lines r.rest rest_of.0 x.lines x.last x.more r.each r.go_on r.ended.1 x.each x.one_line x.ends (sym rest_of.1 ∙ x.whole) in
+        let replied = r.ended.2 in
+        let goes = no_exit options w w' r.lines replied.answers replied.right replied.go_on in
+        let less = reached r.lines r.rest rest_of.0 x.lines x.last x.more r.each goes r.ended.1 x.each x.one_line x.ends (sym rest_of.1 ∙ x.whole) in
         omega (arith, less, r.ended.0, x.soon)
 
 number_done : (any : Bool) → (number_of (Done any) ≡ 0) ⊎ (number_of (Done any) ≡ 1) ⊎ (number_of (Done any) ≡ 5)
 number_done true = inr (inl refl)
 number_done false = inl refl
 
-pub served_whole : (space space' : Workspace) (left left' : Option (List ℕ)) (reads reads' : ℕ) (old new : Option (List ℕ)) (writes writes' : ℕ) (bytes : List ℕ) (status : Status)
-    → Ran space space' left left' reads reads' old new writes writes' status → status ≢ BadWords → left ≡ Some bytes → IsShort bytes → (Rose reads reads' → ⊥) → (Rose writes writes' → ⊥)
+pub served_whole : (options : Options) (w w' : Workspace) (script script' : SourceSeen) (sink sink' : SinkSeen) (bytes : List ℕ) (status : Status)
+    → Ran options w w' script script' sink sink' status → status ≢ BadWords → script.left ≡ Some bytes → IsShort bytes → (Rose script.faults script'.faults → ⊥) → (Rose sink.faults sink'.faults → ⊥)
     → (number_of status ≡ 0) ⊎ (number_of status ≡ 1) ⊎ (number_of status ≡ 5)
-served_whole space space' left left' reads reads' old new writes writes' bytes (Done any) r known_words e short no_read no_write = number_done any
-served_whole space space' left left' reads reads' old new writes writes' bytes BadWords r known_words e short no_read no_write = absurd (known_words refl)
-served_whole space space' left left' reads reads' old new writes writes' bytes ReadFault r known_words e short no_read no_write = absurd (no_read r.ended.0)
-served_whole space space' left left' reads reads' old new writes writes' bytes WriteFault r known_words e short no_read no_write = absurd (no_write r.ended.0)
-served_whole space space' left left' reads reads' old new writes writes' bytes NoMemory r known_words e short no_read no_write = inr (inr refl)
-served_whole space space' left left' reads reads' old new writes writes' bytes TooManyBytes r known_words e short no_read no_write =
-    absurd (not_too_many space space' left left' reads reads' old new writes writes' bytes r e short)
+served_whole options w w' script script' sink sink' bytes (Done any) r known_words e short no_read no_write = number_done any
+served_whole options w w' script script' sink sink' bytes BadWords r known_words e short no_read no_write = absurd (known_words refl)
+served_whole options w w' script script' sink sink' bytes ReadFault r known_words e short no_read no_write = absurd (no_read r.ended.0)
+served_whole options w w' script script' sink sink' bytes WriteFault r known_words e short no_read no_write = absurd (no_write r.ended.0)
+served_whole options w w' script script' sink sink' bytes NoMemory r known_words e short no_read no_write = inr (inr refl)
+served_whole options w w' script script' sink sink' bytes TooManyBytes r known_words e short no_read no_write = absurd (not_too_many options w w' script script' sink sink' bytes r e short)

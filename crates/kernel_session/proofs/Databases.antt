@@ -6,7 +6,7 @@ use Rattle.tree_model.specs.Forest.{Forest, none, tree, count, join, grove_of}
 use Rattle.tree_model.specs.Labels.{Label, doc_label, with_id, numbered_attrs, numbered, with_path}
 use Rattle.tree_model.specs.Rows.{line_of, lines_of}
 use Rattle.tree_model.specs.Sound.{KeepsRules, IsSound, IsLoose, is_path}
-use Rattle.tree_model.specs.States.{new_base, is_base_name}
+use Rattle.tree_model.specs.States.{new_base}
 use Rattle.tree_model.specs.Trees.{flat-length}
 use Rattle.tree_model.specs.XmlMeaning.{source_tree, content_trees, misc_trees, first_scope}
 use Rattle.tree_model.specs.XmlSource.{Source}
@@ -21,9 +21,9 @@ use Rattle.std.specs.Fmt.{decimal}
 use Rattle.tree_model.specs.Forest.{top_count}
 use Rattle.tree_model.specs.Printed.{base_text}
 use Rattle.std.specs.declared.alloc.AllocError.{AllocError}
-use Rattle.outer_io.specs.Files.{Seen}
+use Rattle.outer_io.specs.Files.{FilesSeen}
 use Rattle.tree_model.specs.declared.code.Refusal.{Refusal}
-use Rattle.kernel_session.specs.Commands.{Input, path_of_input}
+use Rattle.commands.specs.Commands.{Input, path_of_input}
 use Rattle.kernel_session.specs.Databases.{IsRead, IsOne, IsNew, IsDocument}
 
 -- ---- numbers of nodes
@@ -176,19 +176,22 @@ line_text d n len h documents rows =
 
 -- ---- new databases
 
-pub new_empty : (r : Result Stored AllocError) (m : Result Stored Refusal) (strip : Bool) (name : List ℕ) (input : Option Input) (s : Seen) → input ≡ None → is_base_name name ≡ true → IfOk m (λ d. r ≡ Ok d)
+pub new_empty : (r : Result Stored AllocError) (m : Result Stored Refusal) (strip : Bool) (name : List ℕ) (input : Option Input) (s : FilesSeen) → input ≡ None → IfOk m (λ d. r ≡ Ok d)
     → IfOk r (λ d. (base_of d ≡ new_base name none) × (d.branched ≡ false)) → IfOk m (IsNew strip name input s s)
-new_empty r (Err refusal) strip name input s e good same made = tt
-new_empty r (Ok d) strip name None s e good same made =
+new_empty r (Err refusal) strip name input s e same made = tt
+new_empty r (Ok d) strip name None s e same made =
     let told = subst (λ x. IfOk x (λ (d : Stored). (base_of d ≡ new_base name none) × (d.branched ≡ false))) same made in
-    record { base = (good, none, (refl, refl), told.0); whole = told.1 }
-new_empty r (Ok d) strip name (Some input) s e good same made = cc
+    record { documents = none; are = (refl, refl); base = told.0; whole = told.1 }
+new_empty r (Ok d) strip name (Some input) s e same made = cc
 
-pub new_one : (r : Result Stored AllocError) (m : Result Stored Refusal) (strip : Bool) (name : List ℕ) (given : Option Input) (input : Input) (before now : Seen) (built : Built) → given ≡ Some input → is_base_name name ≡ true
+pub new_one : (r : Result Stored AllocError) (m : Result Stored Refusal) (strip : Bool) (name : List ℕ) (given : Option Input) (input : Input) (before now : FilesSeen) (built : Built) → given ≡ Some input
     → IfOk m (λ d. r ≡ Ok d) → IfOk r (IsOne name (path_of_input name input) built) → IsDocument strip input before now built → IfOk m (IsNew strip name given before now)
-new_one r (Err refusal) strip name given input before now built e good same made document = tt
-new_one r (Ok d) strip name given input before now built e good same made document =
+new_one r (Err refusal) strip name given input before now built e same made document = tt
+new_one r (Ok d) strip name given input before now built e same made document =
     let one = subst (λ x. IfOk x (IsOne name (path_of_input name input) built)) same made in
-    let f : Forest Label = with_path (path_of_input name input) (built_forest built) in
-    subst (λ g. IsNew strip name g before now d) (sym e)
-    (record { base = (good, f, (document.bytes, document.given, built_forest built, document.read.tree, refl), one.base); whole = one.whole })
+    subst (λ g. IsNew strip name g before now d) (sym e) (record {
+      documents = with_path (path_of_input name input) (built_forest built);
+      are = (document.bytes, document.given, built_forest built, document.read.tree, refl);
+      base = one.base;
+      whole = one.whole;
+    })

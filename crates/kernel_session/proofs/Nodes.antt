@@ -6,11 +6,11 @@ use Rattle.axis_cursor.specs.Trees.{node_at}
 use Rattle.node_table.proofs.NodeRows.{one_there}
 use Rattle.tree_model.specs.Forest.{Forest, none, tree, count}
 use Rattle.tree_model.specs.Labels.{Label}
-use Rattle.tree_model.specs.Nodes.{Node, nodes, tops}
+use Rattle.tree_model.specs.Nodes.{Node, nodes, root_nodes}
 use Rattle.tree_model.specs.Printing.{node_text, documents_text, tree_text, trees_text, has_trees, scope_in}
 use Rattle.tree_model.specs.States.{document_under}
 use Rattle.tree_model.specs.XmlMeaning.{first_scope}
-use Rattle.tree_model.proofs.Standing.{IsIn, in_from, node_places, tops_in, place_below}
+use Rattle.tree_model.proofs.Standing.{IsIn, in_from, node_places, roots_in, place_below}
 use Rattle.doc_store.specs.Documents.{IsDocumentAt}
 use Rattle.kernel_session.specs.Places.{text_at, IsDocumentPlace}
 
@@ -27,7 +27,7 @@ text_at_is f node h = ap (flat_map node_text) (node_at_is f node h) ∙ append-n
 pub document_text : (path : List ℕ) (f : Forest Label) (place : ℕ) → IsDocumentAt path f place → IsDocumentPlace path f place
 document_text path f place h =
     let node : Node Label = h.node in
-    let among : IsIn (nodes f) node = tops_in 0 f node (in_from (tops f) node h.among) in
+    let among : IsIn (nodes f) node = roots_in 0 f node (in_from (root_nodes f) node h.among) in
     record {
       document = tree node.label node.attrs node.kids none;
       is = h.is;

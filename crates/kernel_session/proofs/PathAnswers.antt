@@ -9,12 +9,12 @@ use Rattle.node_table.specs.Views.{view_of, view_forest, KeepsTrees, places_of}
 use Rattle.tree_model.specs.Forest.{Forest, count}
 use Rattle.tree_model.specs.Labels.{Label}
 use Rattle.tree_model.specs.Axes.{path_value}
-use Rattle.tree_model.specs.Nodes.{tops}
+use Rattle.tree_model.specs.Nodes.{root_nodes}
 use Rattle.tree_model.specs.declared.axis.AxisStep.{AxisStep}
 use Rattle.kernel_session.proofs.PathPlaces.{value_nodes, places_within, path_places_of}
 
 -- what the steps lead to is what the path leads to
-pub path_found : (r : Result (Vec ℕ Global) AllocError) (d : Stored) (steps : List AxisStep) (places : List ℕ) → IsKept d → places ≡ places_of (tops (base_of d).documents)
+pub path_found : (r : Result (Vec ℕ Global) AllocError) (d : Stored) (steps : List AxisStep) (places : List ℕ) → IsKept d → places ≡ places_of (root_nodes (base_of d).documents)
     → IfOk r (λ found. (values : List ℕ) → KeepsTrees (view_of (stored_rows d) d.names values) → found.items ≡ path_places (view_forest (view_of (stored_rows d) d.names values)) steps places)
     → IfOk r (λ found. found.items ≡ places_of (path_value (base_of d).documents steps))
 path_found (Ok found) d steps places h e told = told d.values h.trees ∙ ap (path_places (base_of d).documents steps) e ∙ sym (path_places_of (base_of d).documents steps)

@@ -11,12 +11,12 @@ use Rattle.axis_steps.specs.Steps.{path_places}
 use Rattle.tree_model.specs.Axes.{axis_nodes, step_from, steps_from, path_value}
 use Rattle.tree_model.specs.Forest.{Forest, count, flatten}
 use Rattle.tree_model.specs.Labels.{Label}
-use Rattle.tree_model.specs.Nodes.{Node, nodes, tops, is_place_among}
+use Rattle.tree_model.specs.Nodes.{Node, nodes, root_nodes, is_place_among}
 use Rattle.tree_model.specs.Printing.{node_text, answer_text}
 use Rattle.tree_model.specs.declared.axis.Axis.{Axis}
 use Rattle.tree_model.specs.declared.axis.AxisStep.{AxisStep}
 use Rattle.tree_model.specs.declared.axis.Test.{Test}
-use Rattle.tree_model.proofs.Standing.{IsIn, in_contains, tops_in, place_below, node_places, places_in_order, in_order_in}
+use Rattle.tree_model.proofs.Standing.{IsIn, in_contains, roots_in, place_below, node_places, places_in_order, in_order_in}
 use Rattle.kernel_session.specs.Places.{text_at}
 use Rattle.kernel_session.proofs.Nodes.{node_at_is, text_at_is}
 
@@ -26,8 +26,8 @@ AreNodes f found = (node : Node Label) → IsIn found node → IsIn (nodes f) no
 
 -- ---- the documents
 
-pub tops_nodes : (f : Forest Label) → AreNodes f (tops f)
-tops_nodes f node i = tops_in 0 f node i
+pub roots_nodes : (f : Forest Label) → AreNodes f (root_nodes f)
+roots_nodes f node i = roots_in 0 f node i
 
 -- ---- places below the number of nodes
 
@@ -68,15 +68,15 @@ steps_places_of f (step ∷ steps) found h =
     steps_places_of f steps (step_from f step found) (step_nodes f step found) ∙ ap (path_places f steps) (step_places_of f step found h)
 
 -- the places of the nodes that a path leads to are those that its steps lead to
-pub path_places_of : (f : Forest Label) (steps : List AxisStep) → places_of (path_value f steps) ≡ path_places f steps (places_of (tops f))
-path_places_of f steps = steps_places_of f steps (tops f) (tops_nodes f)
+pub path_places_of : (f : Forest Label) (steps : List AxisStep) → places_of (path_value f steps) ≡ path_places f steps (places_of (root_nodes f))
+path_places_of f steps = steps_places_of f steps (root_nodes f) (roots_nodes f)
 
 steps_nodes : (f : Forest Label) (steps : List AxisStep) (found : List (Node Label)) → AreNodes f found → AreNodes f (steps_from f steps found)
 steps_nodes f [] found h = h
 steps_nodes f (step ∷ steps) found h = steps_nodes f steps (step_from f step found) (step_nodes f step found)
 
 pub value_nodes : (f : Forest Label) (steps : List AxisStep) → AreNodes f (path_value f steps)
-value_nodes f steps = steps_nodes f steps (tops f) (tops_nodes f)
+value_nodes f steps = steps_nodes f steps (root_nodes f) (roots_nodes f)
 
 -- ---- the texts of an answer
 

@@ -3,7 +3,7 @@ use Rattle.std.proofs.Common.{◌≡◌, ℕ, ◌+◌, ◌≤◌, Bool, true, fa
 use Rattle.std.specs.Prelude.{IfOk}
 use Rattle.std.specs.declared.alloc.AllocError.{AllocError}
 use Rattle.std.specs.List.{list_all}
-use Rattle.std.specs.Char.{is_ascii, is_ascii_alphanumeric}
+use Rattle.std.specs.Char.{is_ascii_alphanumeric}
 use Rattle.std.proofs.lemmas.List.{length-append}
 use Rattle.std.proofs.lemmas.List.Folds.{list_all-append}
 use Rattle.std.proofs.lemmas.Bool.{leb-true, le-leb}
@@ -13,7 +13,6 @@ use Rattle.std.proofs.lemmas.Bool.{and_parts}
 use Rattle.tree_model.specs.XmlChars.{first_is, has_word}
 use Rattle.tree_model.specs.Sound.{is_empty, is_path_char, is_path}
 use Rattle.tree_model.specs.States.{is_base_name_char, is_base_name, default_path}
-use Rattle.kernel_session.specs.Commands.{is_file_name, is_document_file, last_part}
 
 abbrev pub is_no_slash : ℕ → Bool
 is_no_slash c = not (c == 47)
@@ -92,33 +91,6 @@ default_path_ok name h =
     let len : length (default_path name) ≡ length name + 4 = length-append name (codes ".xml") in
     let chars : list_all is_part_char (default_path name) ≡ true = list_all-append is_part_char name (codes ".xml") ∙ rw (all_in is_base_name_char is_part_char base_char_in name kept.1) in
     path_of_part_chars (default_path name) chars ∙ rw (len, le-leb 1 (length name + 4) (omega arith), le-leb (length name + 4) 255 (omega arith))
-
--- ---- ASCII
-
-path_char_ascii : (c : ℕ) → is_path_char c ≡ true → is_ascii c ≡ true
-path_char_ascii c h = grind (arith, nat_tests)
-
-base_char_path : (c : ℕ) → is_base_name_char c ≡ true → is_path_char c ≡ true
-base_char_path c h = part_char_in c (base_char_in c h)
-
-pub name_ascii : (name : List ℕ) → is_base_name name ≡ true → list_all is_ascii name ≡ true
-name_ascii name h = all_in is_base_name_char is_ascii (λ c e. path_char_ascii c (base_char_path c e)) name (and_parts (nat_le 1 (length name) && nat_le (length name) 64) (list_all is_base_name_char name) h).1
-
-pub path_ascii : (path : List ℕ) → is_path path ≡ true → list_all is_ascii path ≡ true
-path_ascii path h =
-    let a : Bool = not (is_empty path) in
-    let b : Bool = nat_le (length path) 255 in
-    let chars : Bool = list_all is_path_char path in
-    let d : Bool = not (first_is (λ c. c == 47) path) in
-    let e : Bool = not (has_word (codes "//") (path ++ codes "/")) in
-    let one = and_parts (a && b && chars && d) e h in
-    let two = and_parts (a && b && chars) d one.0 in
-    let three = and_parts (a && b) chars two.0 in
-    all_in is_path_char is_ascii path_char_ascii path three.1
-
--- the part of a document's file behind the last / is a path
-pub file_path : (name : List ℕ) → is_document_file name ≡ true → is_path (last_part name) ≡ true
-file_path name h = (and_parts (is_file_name name) (is_path (last_part name)) h).1
 
 -- what is made equal to a path is one
 pub if_path : (r : Result (List ℕ) AllocError) (path : List ℕ) → is_path path ≡ true → IfOk r (λ text. text ≡ path) → IfOk r (λ text. is_path text ≡ true)

@@ -4,7 +4,8 @@ use Rattle.std.specs.Prelude.{slice_range, slice_index}
 use Rattle.std.proofs.lemmas.List.{drop-take, drop-drop, take-take}
 use Rattle.std.specs.Io.KnownBytes.{prepend_known}
 use Rattle.std.proofs.lemmas.List.Elements.{All-append}
-use Rattle.kernel_session.specs.Lines.{IsOneLine, IsKept, HasRead, ReadsLine}
+use Rattle.outer_io.specs.Outer.{SourceSeen}
+use Rattle.kernel_session.specs.Lines.{IsOneLine, IsKept, HasRead, ReadsLine, behind}
 use Rattle.kernel_session.specs.declared.lines.LineEnd.TheVariants.{Newline}
 
 pub prepend_nil : (left : Option (List ℕ)) → prepend_known [] left ≡ left
@@ -16,14 +17,14 @@ prepend_append p q None = refl
 prepend_append p q (Some xs) = ap Some (append_assoc p q xs)
 
 -- a newline: what stands after it is left
-pub ends_line : (stream left : Option (List ℕ)) (before now stock room : ℕ) (l line line' p q r : List ℕ) (long long' : Bool)
-    → HasRead stream (prepend_known p left) before now stock (room + length p) l line long → p ≡ q ++ 10 ∷ r → IsOneLine q → IsKept (l ++ q) line' long'
-    → ReadsLine stream (prepend_known r left) before now stock (room + length r) line' long' Newline
-ends_line stream left before now stock room l line line' p q r long long' h split clean kept = record {
+pub ends_line : (before now : SourceSeen) (stock room : ℕ) (l line line' p q r : List ℕ) (long long' : Bool)
+    → HasRead before (behind p now) stock (room + length p) l line long → p ≡ q ++ 10 ∷ r → IsOneLine q → IsKept (l ++ q) line' long'
+    → ReadsLine before (behind r now) stock (room + length r) line' long' Newline
+ends_line before now stock room l line line' p q r long long' h split clean kept = record {
   l = l ++ q;
   one_line = All-append (λ c. c ≢ 10) l q h.one_line clean;
   kept = kept;
-  consumed = h.consumed ∙ sym (prepend_append l p left) ∙ ap (λ x. prepend_known x left) whole ∙ prepend_append ((l ++ q) ++ 10 ∷ []) r left;
+  consumed = h.consumed ∙ sym (prepend_append l p now.left) ∙ ap (λ x. prepend_known x now.left) whole ∙ prepend_append ((l ++ q) ++ 10 ∷ []) r now.left;
   later = h.later;
   counted = omega (arith, h.counted, ap length whole, length-append l p, length-append ((l ++ q) ++ 10 ∷ []) r);
   ended = tt;
@@ -58,13 +59,13 @@ one_line_front b s at e lt h =
     subst IsOneLine (take-take at (e - s) (drop s b) (omega arith) ∙ ap (λ k. take k (drop s b)) (omega arith)) h
 
 -- a newline, in the terms of the code
-pub ends_line_at : (stream left : Option (List ℕ)) (before now stock room : ℕ) (l line line' b : List ℕ) (s at e : ℕ) (long long' : Bool) → e ≤ length b → s ≤ e
-    → HasRead stream (prepend_known (slice_range b s e) left) before now stock (room + (e - s)) l line long
+pub ends_line_at : (before now : SourceSeen) (stock room : ℕ) (l line line' b : List ℕ) (s at e : ℕ) (long long' : Bool) → e ≤ length b → s ≤ e
+    → HasRead before (behind (slice_range b s e) now) stock (room + (e - s)) l line long
     → at < length (slice_range b s e) → slice_index (slice_range b s e) at ≡ 10 → IsOneLine (take at (slice_range b s e)) → IsKept (l ++ slice_range b s (s + at)) line' long'
-    → ReadsLine stream (prepend_known (slice_range b (s + at + 1) e) left) before now stock (room + (e - (s + at + 1))) line' long' Newline
-ends_line_at stream left before now stock room l line line' b s at e long long' le se h lt is clean kept =
+    → ReadsLine before (behind (slice_range b (s + at + 1) e) now) stock (room + (e - (s + at + 1))) line' long' Newline
+ends_line_at before now stock room l line line' b s at e long long' le se h lt is clean kept =
     let sizes : room + length (slice_range b s e) ≡ room + (e - s) = ap (λ k. room + k) (range_length b s e le) in
     let sizes' : room + length (slice_range b (s + at + 1) e) ≡ room + (e - (s + at + 1)) = ap (λ k. room + k) (range_length b (s + at + 1) e le) in
-    let h' = subst (λ (k : ℕ). HasRead stream (prepend_known (slice_range b s e) left) before now stock k l line long) (sym sizes) h in
-    let done = ends_line stream left before now stock room l line line' (slice_range b s e) (slice_range b s (s + at)) (slice_range b (s + at + 1) e) long long' h' (at_newline b s at e lt is) (one_line_front b s at e lt clean) kept in
-    subst (λ (k : ℕ). ReadsLine stream (prepend_known (slice_range b (s + at + 1) e) left) before now stock k line' long' Newline) sizes' done
+    let h' = subst (λ (k : ℕ). HasRead before (behind (slice_range b s e) now) stock k l line long) (sym sizes) h in
+    let done = ends_line before now stock room l line line' (slice_range b s e) (slice_range b s (s + at)) (slice_range b (s + at + 1) e) long long' h' (at_newline b s at e lt is) (one_line_front b s at e lt clean) kept in
+    subst (λ (k : ℕ). ReadsLine before (behind (slice_range b (s + at + 1) e) now) stock k line' long' Newline) sizes' done

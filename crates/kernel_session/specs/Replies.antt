@@ -2,7 +2,7 @@
 use Rattle.std.specs.Prelude.{◌≡◌, ℕ, ◌≤◌, List, [], ◌∷◌, ◌++◌, length, codes, Option, Some, None, Result, OnOk, OnErr}
 use Rattle.std.specs.Fmt.{decimal}
 use Rattle.std.specs.Io.KnownBytes.{append_known}
-use Rattle.outer_io.specs.Outer.{Rose}
+use Rattle.outer_io.specs.Outer.{Rose, SinkSeen}
 use Rattle.tree_model.specs.CodeTexts.{text_of_code}
 use Rattle.tree_model.specs.declared.code.Refusal.{Refusal}
 use Rattle.tree_model.specs.declared.code.Refusal.TheVariants as refusal
@@ -35,14 +35,14 @@ text_if None = []
 text_if (Some answer) = text_of answer
 
 -- a front of the text was written
-pub record WrotePart (old new : Option (List ℕ)) (text : List ℕ) : Type 0 where
+pub record WrotePart (old new : SinkSeen) (text : List ℕ) : Type 0 where
   pub front : List ℕ
   pub rest : List ℕ
   pub whole : text ≡ front ++ rest
-  pub written : new ≡ append_known old front
+  pub written : new.written ≡ append_known old.written front
 
 -- all of the text was written, or a write failed and a front of it was
-pub record HasWritten (old new : Option (List ℕ)) (before now : ℕ) (text : List ℕ) (r : Result (Unit {0}) WriteFailed) : Type 0 where
-  pub later : before ≤ now
-  pub ok : OnOk r (new ≡ append_known old text)
-  pub err : OnErr r (Rose before now × WrotePart old new text)
+pub record HasWritten (old new : SinkSeen) (text : List ℕ) (r : Result (Unit {0}) WriteFailed) : Type 0 where
+  pub later : old.faults ≤ new.faults
+  pub ok : OnOk r (new.written ≡ append_known old.written text)
+  pub err : OnErr r (Rose old.faults new.faults × WrotePart old new text)

@@ -11,8 +11,8 @@ ghost use Rattle.doc_store.specs.Stored.{base_of, IsKept};
 ghost use Rattle.frame_pool.specs.Meters.{HasRead};
 ghost use Rattle.kernel_session.specs.Places.{text_at, IsDocumentPlace};
 
-use crate::number::Number;
 use axis_steps::{Trees, path};
+use commands::Number;
 use doc_store::{Database, document_count, document_places, find_document};
 use frame_pool::Meter;
 use serializer::{print_node, print_storage, push_number};
@@ -69,11 +69,11 @@ pub fn push_list(databases: &[Database], out: &mut Vec<u8>) -> Result<(), AllocE
 }
 
 /// The place of the document under a path.
-pub fn document_place(database: &Database, path: &[u8]) -> Option<u32>
+pub fn document_place(database: &Database, path: &str) -> Option<u32>
     ensures some { IfSome result (IsDocumentPlace path.now (base_of database.now).documents) }
     ensures none { IfNone result (document_under path.now (base_of database.now).documents ≡ None) }
 {
-    find_document(database, path)
+    find_document(database, path.as_bytes())
 }
 
 /// Appends the XML text of the node at a place.

@@ -1,13 +1,12 @@
 // The documents that inputs give.
 ghost use Rattle.std.specs.Prelude.{◌≡◌, ◌^◌, ◌≤◌, ℕ, Bool, List, Err, IfOk, IfErr};
 ghost use Rattle.doc_import.specs.Imported.{IsImport};
-ghost use Rattle.outer_io.specs.Files.{seen};
-ghost use Rattle.kernel_session.specs.Commands.{file};
-ghost use Rattle.kernel_session.specs.CommandView.{input_of, input_of_document};
+ghost use Rattle.commands.specs.Commands.{file};
+ghost use Rattle.commands.specs.CommandView.{input_of, input_of_document};
 ghost use Rattle.kernel_session.specs.Databases.{IsRead, IsReadFault, IsDocument, IsNoDocument, IsFileRefusal};
 ghost use Rattle.kernel_session.specs.Steps.{IsGiven};
 
-use crate::input::{Input, NewDocument};
+use commands::{DocumentInput, Input};
 use doc_import::{Built, ImportFault, import};
 use outer_io::{FileRead, Files};
 use std::alloc::Global;
@@ -46,10 +45,8 @@ fn read_text(alloc: Global, xml: &[u8], strip: bool) -> Result<Built, Refusal>
 
 // The bytes of a file.
 fn read_file<F: Files>(files: &mut F, name: &str) -> Result<Vec<u8>, Refusal>
-    ensures given { IfOk result (λ bytes. IsGiven (file name.now) (seen (F.map files.old) (F.faults files.old) (F.misses files.old) (F.overlong files.old))
-        (seen (F.map files.new) (F.faults files.new) (F.misses files.new) (F.overlong files.new)) bytes.items) }
-    ensures refused { IfErr result (IsFileRefusal name.now (seen (F.map files.old) (F.faults files.old) (F.misses files.old) (F.overlong files.old))
-        (seen (F.map files.new) (F.faults files.new) (F.misses files.new) (F.overlong files.new))) }
+    ensures given { IfOk result (λ bytes. IsGiven (file name.now) (F.seen files.old) (F.seen files.new) bytes.items) }
+    ensures refused { IfErr result (IsFileRefusal name.now (F.seen files.old) (F.seen files.new)) }
 {
     match files.read(name, MAX_FILE) {
         FileRead::Bytes(bytes) => Ok(bytes),
@@ -67,10 +64,8 @@ fn read_named<F: Files>(
     strip: bool,
     files: &mut F,
 ) -> Result<Built, Refusal>
-    ensures document { IfOk result (IsDocument strip (file name.now) (seen (F.map files.old) (F.faults files.old) (F.misses files.old) (F.overlong files.old))
-        (seen (F.map files.new) (F.faults files.new) (F.misses files.new) (F.overlong files.new))) }
-    ensures none { IfErr result (IsNoDocument strip (file name.now) (seen (F.map files.old) (F.faults files.old) (F.misses files.old) (F.overlong files.old))
-        (seen (F.map files.new) (F.faults files.new) (F.misses files.new) (F.overlong files.new))) }
+    ensures document { IfOk result (IsDocument strip (file name.now) (F.seen files.old) (F.seen files.new)) }
+    ensures none { IfErr result (IsNoDocument strip (file name.now) (F.seen files.old) (F.seen files.new)) }
 {
     match read_file(files, name) {
         Ok(bytes) => read_text(alloc, &bytes, strip),
@@ -85,13 +80,11 @@ pub fn read_document<F: Files>(
     strip: bool,
     files: &mut F,
 ) -> Result<Built, Refusal>
-    ensures document { IfOk result (IsDocument strip (input_of input.now) (seen (F.map files.old) (F.faults files.old) (F.misses files.old) (F.overlong files.old))
-        (seen (F.map files.new) (F.faults files.new) (F.misses files.new) (F.overlong files.new))) }
-    ensures none { IfErr result (IsNoDocument strip (input_of input.now) (seen (F.map files.old) (F.faults files.old) (F.misses files.old) (F.overlong files.old))
-        (seen (F.map files.new) (F.faults files.new) (F.misses files.new) (F.overlong files.new))) }
+    ensures document { IfOk result (IsDocument strip (input_of input.now) (F.seen files.old) (F.seen files.new)) }
+    ensures none { IfErr result (IsNoDocument strip (input_of input.now) (F.seen files.old) (F.seen files.new)) }
 {
     match input {
-        Input::Text(xml) => read_text(alloc, xml.bytes(), strip),
+        Input::Text(xml) => read_text(alloc, xml.text().as_bytes(), strip),
         Input::File(file) => read_named(alloc, file.name(), strip, files),
     }
 }
@@ -99,17 +92,15 @@ pub fn read_document<F: Files>(
 /// The document of a new database, without a path.
 pub fn read_new_document<F: Files>(
     alloc: Global,
-    document: &NewDocument<'_>,
+    document: &DocumentInput<'_>,
     strip: bool,
     files: &mut F,
 ) -> Result<Built, Refusal>
-    ensures document { IfOk result (IsDocument strip (input_of_document document.now) (seen (F.map files.old) (F.faults files.old) (F.misses files.old) (F.overlong files.old))
-        (seen (F.map files.new) (F.faults files.new) (F.misses files.new) (F.overlong files.new))) }
-    ensures none { IfErr result (IsNoDocument strip (input_of_document document.now) (seen (F.map files.old) (F.faults files.old) (F.misses files.old) (F.overlong files.old))
-        (seen (F.map files.new) (F.faults files.new) (F.misses files.new) (F.overlong files.new))) }
+    ensures document { IfOk result (IsDocument strip (input_of_document document.now) (F.seen files.old) (F.seen files.new)) }
+    ensures none { IfErr result (IsNoDocument strip (input_of_document document.now) (F.seen files.old) (F.seen files.new)) }
 {
     match document {
-        NewDocument::Text(xml) => read_text(alloc, xml.bytes(), strip),
-        NewDocument::File(file) => read_named(alloc, file.name(), strip, files),
+        DocumentInput::Text(xml) => read_text(alloc, xml.text().as_bytes(), strip),
+        DocumentInput::File(file) => read_named(alloc, file.name(), strip, files),
     }
 }

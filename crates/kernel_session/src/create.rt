@@ -1,28 +1,25 @@
 // A new database: its name, and its document if it has one.
 ghost use Rattle.std.specs.Prelude.{◌≡◌, ℕ, Bool, List, true, false, Ok, IfOk, IfErr};
-ghost use Rattle.std.specs.Char.{is_ascii};
 ghost use Rattle.std.specs.List.{list_all};
 ghost use Rattle.std.specs.Option.{option_map};
-ghost use Rattle.outer_io.specs.Files.{seen};
 ghost use Rattle.tree_model.specs.Forest.{none};
 ghost use Rattle.tree_model.specs.Labels.{numbered};
 ghost use Rattle.tree_model.specs.Sound.{is_path, IsSound};
 ghost use Rattle.tree_model.specs.States as states;
 ghost use Rattle.doc_import.specs.Imported.{IsBuilt, built_forest};
 ghost use Rattle.doc_store.specs.Stored.{base_of};
-ghost use Rattle.kernel_session.specs.Commands as read;
-ghost use Rattle.kernel_session.specs.CommandView.{input_of_document};
+ghost use Rattle.commands.specs.Commands as read;
+ghost use Rattle.commands.specs.CommandView.{input_of_document};
 ghost use Rattle.kernel_session.specs.Databases.{IsRead, IsOne, IsNew, IsNoBase, IsWant};
 
-use crate::command::last_part;
 use crate::content::read_new_document;
-use crate::input::NewDocument;
+use commands::DocumentInput;
 use doc_import::Built;
 use doc_store::Database;
 use frame_pool::Meter;
 use outer_io::Files;
 use std::alloc::{AllocError, Global};
-use tree_model::{Code, Refusal, Text};
+use tree_model::{Refusal, Text};
 
 // The most bytes of a database's name.
 const MAX_NAME: usize = 64;
@@ -39,51 +36,39 @@ fn has_name_bytes(bytes: &[u8]) -> bool
     bytes.iter().all(|byte| is_name_byte(*byte))
 }
 
-fn is_base_name(name: &[u8]) -> bool
+/// Whether a database may have this name: 1 to 64 ASCII letters, digits, `_` or `-`.
+pub fn is_base_name(name: &str) -> bool
     ensures { result ≡ states.is_base_name name.now }
 {
-    !name.is_empty() && name.len() <= MAX_NAME && has_name_bytes(name)
-}
-
-// ASCII bytes as a text.
-fn ascii_text(alloc: Global, bytes: &[u8]) -> Result<Text, AllocError>
-    requires { list_all is_ascii bytes.now ≡ true }
-    ensures { IfOk result (λ text. text ≡ bytes.now) }
-{
-    match std::str::from_utf8(bytes) {
-        Ok(text) => Text::of(alloc, text),
-        Err(_) => Err(AllocError),
-    }
+    !name.is_empty() && name.len() <= MAX_NAME && has_name_bytes(name.as_bytes())
 }
 
 // The path of a document that is given as XML text.
-fn default_path(alloc: Global, name: &[u8]) -> Result<Text, AllocError>
+fn default_path(alloc: Global, name: &str) -> Result<Text, AllocError>
     requires { states.is_base_name name.now ≡ true }
     ensures { IfOk result (λ path. path ≡ states.default_path name.now) }
 {
-    let mut path = name.to_vec(alloc)?;
-    path.extend_from_slice(b".xml")?;
-    ascii_text(alloc, &path)
+    let path = format!(in alloc; "{name}.xml")?;
+    Text::of(alloc, path.as_str())
 }
 
 // The path of the document of a new database of this name.
-fn path_of(alloc: Global, name: &[u8], document: &NewDocument<'_>) -> Result<Text, AllocError>
+fn path_of(alloc: Global, name: &str, document: &DocumentInput<'_>) -> Result<Text, AllocError>
     requires { states.is_base_name name.now ≡ true }
     ensures path { IfOk result (λ path. path ≡ read.path_of_input name.now (input_of_document document.now)) }
     ensures good { IfOk result (λ path. is_path path ≡ true) }
 {
     match document {
-        NewDocument::Text(_) => default_path(alloc, name),
-        NewDocument::File(file) => ascii_text(alloc, last_part(file.name().as_bytes())),
+        DocumentInput::Text(_) => default_path(alloc, name),
+        DocumentInput::File(file) => Text::of(alloc, file.path()),
     }
 }
 
 // An empty database.
-fn empty_database(alloc: Global, name: &[u8]) -> Result<Database, AllocError>
-    requires { states.is_base_name name.now ≡ true }
+fn empty_database(alloc: Global, name: &str) -> Result<Database, AllocError>
     ensures { IfOk result (λ d. (base_of d ≡ states.new_base name.now none) × (d.branched ≡ false)) }
 {
-    let name = ascii_text(alloc, name)?;
+    let name = Text::of(alloc, name)?;
     Database::new_at(alloc, &name, 0)
 }
 
@@ -115,8 +100,8 @@ pub fn database_of(
 // A database of this name with the document that was read for it.
 fn with_document(
     alloc: Global,
-    name: &[u8],
-    document: &NewDocument<'_>,
+    name: &str,
+    document: &DocumentInput<'_>,
     built: &Built,
     meter: &mut Meter,
 ) -> Result<Database, AllocError>
@@ -126,7 +111,7 @@ fn with_document(
     ensures meter { meter.new ≡ meter.old }
 {
     let path = path_of(alloc, name, document)?;
-    let name = ascii_text(alloc, name)?;
+    let name = Text::of(alloc, name)?;
     database_of(alloc, &name, &path, built, meter)
 }
 
@@ -141,24 +126,20 @@ fn made(database: Result<Database, AllocError>) -> Result<Database, Refusal>
     }
 }
 
-/// A new database. `XKDB0003` for a name that isn't good, then what its input is refused for.
+/// A new database of a good name. What its input is refused for is refused.
 pub fn new_database<F: Files>(
     alloc: Global,
-    name: &[u8],
-    document: &Option<NewDocument<'_>>,
+    name: &str,
+    document: &Option<DocumentInput<'_>>,
     strip: bool,
     files: &mut F,
     meter: &mut Meter,
 ) -> Result<Database, Refusal>
-    ensures ok { IfOk result (IsNew strip name.now (option_map input_of_document document.now) (seen (F.map files.old) (F.faults files.old) (F.misses files.old) (F.overlong files.old))
-        (seen (F.map files.new) (F.faults files.new) (F.misses files.new) (F.overlong files.new))) }
-    ensures err { IfErr result (IsNoBase strip name.now (option_map input_of_document document.now) (seen (F.map files.old) (F.faults files.old) (F.misses files.old) (F.overlong files.old))
-        (seen (F.map files.new) (F.faults files.new) (F.misses files.new) (F.overlong files.new))) }
+    requires { states.is_base_name name.now ≡ true }
+    ensures ok { IfOk result (IsNew strip name.now (option_map input_of_document document.now) (F.seen files.old) (F.seen files.new)) }
+    ensures err { IfErr result (IsNoBase strip (option_map input_of_document document.now) (F.seen files.old) (F.seen files.new)) }
     ensures meter { meter.new ≡ meter.old }
 {
-    if !is_base_name(name) {
-        return Err(Refusal::Code(Code::XKDB0003));
-    }
     let Some(document) = document else {
         return made(empty_database(alloc, name));
     };

@@ -3,30 +3,28 @@ ghost use Rattle.std.specs.Prelude.{◌≡◌, ◌<◌, ◌^◌, ◌++◌, ◌�
 ghost use Rattle.std.specs.List.{position};
 ghost use Rattle.std.specs.Option.{option_map};
 ghost use Rattle.std.specs.Str.{bytes_eq};
-ghost use Rattle.outer_io.specs.Files.{Seen, seen};
+ghost use Rattle.outer_io.specs.Files.{FilesSeen};
 ghost use Rattle.tree_model.specs.Printed.{list_text};
 ghost use Rattle.tree_model.specs.Printed as printed;
 ghost use Rattle.tree_model.specs.Labels.{with_path};
-ghost use Rattle.doc_import.specs.Imported.{built_forest};
-ghost use Rattle.tree_model.specs.States.{State, Base, IsOpened, no_bases, without_name, with_new};
+ghost use Rattle.tree_model.specs.States.{State, Base, is_base_name, without_name, with_new};
 ghost use Rattle.tree_model.specs.Sound.{are_distinct};
+ghost use Rattle.doc_import.specs.Imported.{built_forest};
 ghost use Rattle.doc_store.specs.Stored.{Stored, base_of};
-ghost use Rattle.frame_pool.specs.Meters.{HasRead};
-ghost use Rattle.kernel_session.specs.CommandView.{form_of_command, input_of, input_of_document};
+ghost use Rattle.commands.specs.CommandView.{form_of_command, input_of, input_of_document};
+ghost use Rattle.commands.specs.Commands.{table, create, storage, list, query, export};
 ghost use Rattle.kernel_session.specs.Databases.{AreKept, AreWhole, IsRead};
 ghost use Rattle.kernel_session.specs.Replies.{accepted, refused, IsText};
 ghost use Rattle.kernel_session.specs.ReplyView.{answer_of};
 ghost use Rattle.kernel_session.specs.Exports.{IsWrittenReply};
-ghost use Rattle.kernel_session.specs.Commands.{table, create, storage, list, query, export};
-ghost use Rattle.kernel_session.specs.Steps.{Workspace, workspace, Step};
+ghost use Rattle.kernel_session.specs.Steps.{Step, open_base};
+ghost use Rattle.kernel_session.specs.Workspaces.{Workspace, workspace, state_of};
 
 use crate::answers::{document_place, push_answer, push_list, push_node, push_storage};
-use crate::command::{Command, Options};
 use crate::content::read_document;
-use crate::create::{database_of, new_database};
-use crate::input::{DocumentPath, FileName, Input, NewDocument};
-use crate::number::Number;
+use crate::create::{database_of, is_base_name, new_database};
 use crate::reply::Reply;
+use commands::{Command, DocumentInput, DocumentPath, FileName, Input, Number, Options};
 use doc_import::Built;
 use doc_store::Database;
 use frame_pool::Meter;
@@ -39,7 +37,8 @@ use tree_model::{Code, Refusal, Text};
 /// There are fewer databases than this.
 const MAX_DATABASES: usize = 1 << 32;
 
-/// The databases of a session, and which is open. Contracts see the state.
+/// The databases of a session, and which is open. Contracts see the databases as they are stored; `state_of` is what they
+/// stand for.
 #[derive(Drop)]
 pub struct Kernel {
     databases: Vec<Database>,
@@ -48,16 +47,13 @@ pub struct Kernel {
 
 impl Model for Kernel {
     ghost use Rattle.std.specs.Prelude.{map};
-    ghost use Rattle.tree_model.specs.States.{State};
-    ghost use Rattle.tree_model.specs.Codes.{coded_state};
     ghost use Rattle.doc_store.specs.Stored.{base_of};
     ghost use Rattle.kernel_session.specs.Databases.{AreKept, AreWhole};
+    ghost use Rattle.kernel_session.specs.Workspaces.{KernelView};
 
-    ghost Value = { State };
+    ghost Value = { KernelView };
 
-    ghost coded = { coded_state };
-
-    ghost view = { λ k. record { bases = map base_of k.databases.items; opened = k.opened } };
+    ghost view = { λ k. record { stored = k.databases.items; opened = k.opened } };
 
     ghost invariant = { λ k. AreKept (map base_of k.databases.items) k.opened × AreWhole k.databases.items };
 }
@@ -150,9 +146,8 @@ fn table_reply<F: Files>(
     options: Options,
     meter: &mut Meter,
 ) -> Reply
-    ensures step { (state : State) → Step options (workspace state (F.map files.old) (F.faults files.old) (F.misses files.old) (F.overlong files.old)) (table (input_of input.now)) (answer_of result)
-        (workspace state (F.map files.new) (F.faults files.new) (F.misses files.new) (F.overlong files.new)) }
-    ensures meter { meter.new ≡ meter.old }
+    ensures { (state : State) → Step options (workspace state (F.seen files.old) meter.old) (table (input_of input.now)) (answer_of result)
+        (workspace state (F.seen files.new) meter.new) }
 {
     match read_document(alloc, input, options.strip, files) {
         Ok(built) => rows_reply(alloc, &built, meter),
@@ -162,8 +157,7 @@ fn table_reply<F: Files>(
 
 // The reply to EXPORT, once the document was printed.
 fn written_reply<F: Files>(alloc: Global, name: &str, text: &[u8], files: &mut F) -> Reply
-    ensures { IsWrittenReply name.now text.now (seen (F.map files.old) (F.faults files.old) (F.misses files.old) (F.overlong files.old))
-        (seen (F.map files.new) (F.faults files.new) (F.misses files.new) (F.overlong files.new)) (answer_of result) }
+    ensures { IsWrittenReply name.now text.now (F.seen files.old) (F.seen files.new) (answer_of result) }
 {
     match files.write(name, text) {
         FileWrite::Done => Reply::Ok(Vec::new(alloc)),
@@ -175,7 +169,7 @@ fn written_reply<F: Files>(alloc: Global, name: &str, text: &[u8], files: &mut F
 impl Kernel {
     /// A kernel with no database. Takes no memory.
     pub fn new(alloc: Global) -> Kernel
-        ensures { result ≡ no_bases }
+        ensures { result ≡ record { stored = []; opened = None } }
     {
         Kernel {
             databases: Vec::new(alloc),
@@ -187,14 +181,14 @@ impl Kernel {
     pub fn of(databases: Vec<Database>, opened: Option<u32>) -> Kernel
         requires kept { AreKept (map base_of databases.items) opened }
         requires whole { AreWhole databases.items }
-        ensures { result ≡ record { bases = map base_of databases.items; opened = opened } }
+        ensures { result ≡ record { stored = databases.items; opened = opened } }
     {
         Kernel { databases, opened }
     }
 
     /// The databases, in order of making. Of none a branch is out.
     pub fn databases(&self) -> &[Database]
-        ensures bases { map base_of result.now ≡ self.now.bases }
+        ensures stored { result.now ≡ self.now.stored }
         ensures whole { AreWhole result.now }
     {
         self.databases.as_slice()
@@ -209,8 +203,7 @@ impl Kernel {
 
     // The open database.
     fn database(&self) -> Option<&Database>
-        ensures some { IfSome result (λ database. IsOpened self.now (base_of database.now)) }
-        ensures none { IfNone result (self.now.opened ≡ None) }
+        ensures { option_map (λ database. base_of database.now) result ≡ open_base (state_of self.now) }
     {
         let place = self.opened?;
         Some(&self.databases[place as usize])
@@ -218,7 +211,7 @@ impl Kernel {
 
     // The reply to INFO STORAGE.
     fn storage_reply(&self, alloc: Global, range: &Option<(Number, Number)>) -> Reply
-        ensures { (options : Options) (w : Workspace) → w.state ≡ self.now → Step options w (storage range.now) (answer_of result) w }
+        ensures { (options : Options) (w : Workspace) → w.state ≡ state_of self.now → Step options w (storage range.now) (answer_of result) w }
     {
         let Some(database) = self.database() else {
             return Reply::Err(Refusal::Code(Code::XKDB0001));
@@ -230,7 +223,7 @@ impl Kernel {
 
     // The reply to LIST.
     fn list_reply(&self, alloc: Global) -> Reply
-        ensures { IsText (list_text self.now.bases) (answer_of result) }
+        ensures { IsText (list_text (state_of self.now).bases) (answer_of result) }
     {
         let mut text = Vec::new(alloc);
         let written = push_list(self.databases.as_slice(), &mut text);
@@ -239,8 +232,8 @@ impl Kernel {
 
     // The reply to XQUERY.
     fn query_reply(&self, alloc: Global, words: &str, meter: &mut Meter) -> Reply
-        ensures step { (options : Options) (w : Workspace) → w.state ≡ self.now → Step options w (query words.now) (answer_of result) w }
-        ensures meter { HasRead meter.old meter.new }
+        ensures { (options : Options) (files : FilesSeen) → Step options (workspace (state_of self.now) files meter.old) (query words.now) (answer_of result)
+            (workspace (state_of self.now) files meter.new) }
     {
         let steps = match read_query(alloc, words) {
             Ok(steps) => steps,
@@ -262,13 +255,13 @@ impl Kernel {
         file: &FileName<'_>,
         files: &mut F,
     ) -> Reply
-        ensures { (options : Options) → Step options (workspace self.now (F.map files.old) (F.faults files.old) (F.misses files.old) (F.overlong files.old)) (export path.now file.now) (answer_of result)
-            (workspace self.now (F.map files.new) (F.faults files.new) (F.misses files.new) (F.overlong files.new)) }
+        ensures { (options : Options) (meter : Meter) → Step options (workspace (state_of self.now) (F.seen files.old) meter) (export path.now file.now) (answer_of result)
+            (workspace (state_of self.now) (F.seen files.new) meter) }
     {
         let Some(database) = self.database() else {
             return Reply::Err(Refusal::Code(Code::XKDB0001));
         };
-        let Some(place) = document_place(database, path.bytes()) else {
+        let Some(place) = document_place(database, path.text()) else {
             return Reply::Err(Refusal::Code(Code::XKDB0004));
         };
         let mut text = Vec::new(alloc);
@@ -281,7 +274,8 @@ impl Kernel {
     // Puts a database behind the others, drops the one of its name that was there, and opens it.
     fn add(&mut self, database: Database) -> Result<(), AllocError>
         requires own { database.branched ≡ false }
-        ensures ok { OnOk result (self.new ≡ with_new (base_of database) self.old) }
+        requires name { is_base_name database.name ≡ true }
+        ensures ok { OnOk result (state_of self.new ≡ with_new (base_of database) (state_of self.old)) }
         ensures err { OnErr result (self.new ≡ self.old) }
     {
         put(&mut self.databases, database)?;
@@ -293,16 +287,18 @@ impl Kernel {
     fn create<F: Files>(
         &mut self,
         alloc: Global,
-        name: &[u8],
-        document: &Option<NewDocument<'_>>,
+        name: &str,
+        document: &Option<DocumentInput<'_>>,
         files: &mut F,
         options: Options,
         meter: &mut Meter,
     ) -> Reply
-        ensures step { Step options (workspace self.old (F.map files.old) (F.faults files.old) (F.misses files.old) (F.overlong files.old)) (create name.now (option_map input_of_document document.now)) (answer_of result)
-            (workspace self.new (F.map files.new) (F.faults files.new) (F.misses files.new) (F.overlong files.new)) }
-        ensures meter { meter.new ≡ meter.old }
+        ensures { Step options (workspace (state_of self.old) (F.seen files.old) meter.old) (create name.now (option_map input_of_document document.now)) (answer_of result)
+            (workspace (state_of self.new) (F.seen files.new) meter.new) }
     {
+        if !is_base_name(name) {
+            return Reply::Err(Refusal::Code(Code::XKDB0003));
+        }
         let database = match new_database(alloc, name, document, options.strip, files, meter) {
             Ok(database) => database,
             Err(refusal) => return Reply::Err(refusal),
@@ -321,9 +317,8 @@ impl Kernel {
         options: Options,
         meter: &mut Meter,
     ) -> Reply
-        ensures step { Step options (workspace self.old (F.map files.old) (F.faults files.old) (F.misses files.old) (F.overlong files.old)) (form_of_command command.now) (answer_of result)
-            (workspace self.new (F.map files.new) (F.faults files.new) (F.misses files.new) (F.overlong files.new)) }
-        ensures meter { HasRead meter.old meter.new }
+        ensures { Step options (workspace (state_of self.old) (F.seen files.old) meter.old) (form_of_command command.now) (answer_of result)
+            (workspace (state_of self.new) (F.seen files.new) meter.new) }
     {
         match command {
             Command::Table(input) => table_reply(alloc, input, files, options, meter),

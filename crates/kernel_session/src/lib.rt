@@ -2,22 +2,15 @@
 #![tactic(auto)]
 
 mod answers;
-mod blanks;
-mod command;
 mod content;
 mod create;
-mod input;
 mod kernel;
+mod line_reader;
 mod lines;
-mod number;
 mod reply;
 mod session;
-mod word;
 
-pub use command::{Command, Options, QueryText, read_command};
-pub use input::{DocumentFile, DocumentPath, FileName, Input, NewDocument, XmlText};
 pub use kernel::Kernel;
-pub use number::Number;
 pub use reply::Reply;
 pub use session::{Status, file_faults_count, one_cut, run};
 

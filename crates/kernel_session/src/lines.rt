@@ -1,14 +1,12 @@
 // Lines of a source, in whatever pieces it comes.
-ghost use Rattle.std.specs.Prelude.{◌≡◌, ◌+◌, ◌-◌, ◌^◌, ◌<◌, ◌≤◌, ◌++◌, ℕ, List, length, take, vec_len, slice_index, slice_range, IfOk, OnOk, OnErr, IfSome, IfNone};
-ghost use Rattle.std.specs.Io.KnownBytes.{prepend_known};
+ghost use Rattle.std.specs.Prelude.{◌≡◌, ◌+◌, ◌-◌, ◌^◌, ◌<◌, ◌≤◌, ◌++◌, ℕ, List, length, take, slice_index, slice_range, IfOk, OnOk, OnErr, IfSome, IfNone};
 ghost use Rattle.outer_io.specs.Outer.{Reads, IsAtMost};
-ghost use Rattle.kernel_session.specs.Lines.{IsOneLine, IsKept, Filled, IsUsed, ReadsLine};
+ghost use Rattle.kernel_session.specs.Lines.{IsOneLine, IsKept, Filled, IsUsed, ReadsLine, LosesLine, behind, pending, stock};
 
+use crate::line_reader::LineReader;
+use commands::MAX_LINE;
 use outer_io::{ReadStep, Source};
 use std::alloc::{AllocError, Global};
-
-/// The bytes that a line may have without its LF.
-pub const MAX_LINE: usize = 1 << 24;
 
 // The bytes that one read asks for at most.
 const BUFFER: usize = 1 << 16;
@@ -25,29 +23,11 @@ pub enum LineEnd {
     Full,
 }
 
-/// The line that is being read, and the bytes that were taken and stand after it.
-#[derive(Drop)]
-pub struct LineReader {
-    /// The bytes that were taken and aren't used stand in it from `start` to `end`.
-    pub buffer: Vec<u8>,
-    pub start: usize,
-    pub end: usize,
-    /// How many bytes may still be taken from the source.
-    pub room: u64,
-    /// The line without its LF; empty where `is_long`.
-    pub line: Vec<u8>,
-    /// Whether it has more than 2^24 bytes.
-    pub is_long: bool,
-    ghost ordered: { start ≤ end },
-    ghost in_range: { end ≤ vec_len buffer },
-    ghost some: { 0 < vec_len buffer },
-}
-
 // Reads at most so many bytes to the front of the buffer.
 fn read_into<S: Source>(source: &mut S, buffer: &mut [u8], most: usize) -> ReadStep
     requires some { 0 < most }
     requires within { most ≤ length buffer.old }
-    ensures reads { Reads (S.left source.old) (S.left source.new) (S.faults source.old) (S.faults source.new) buffer.new result }
+    ensures reads { Reads (S.seen source.old) (S.seen source.new) buffer.new result }
     ensures most { IsAtMost most result }
     ensures len { length buffer.new ≡ length buffer.old }
 {
@@ -102,9 +82,8 @@ impl LineReader {
     // Takes more bytes, where all that were taken are used.
     fn fill<S: Source>(&mut self, source: &mut S) -> Option<LineEnd>
         requires { self.old.start ≡ self.old.end }
-        ensures filled { Filled (S.left source.old) (S.left source.new) (S.faults source.old) (S.faults source.new) self.old.room self.new.room
-            (slice_range self.new.buffer.items self.new.start self.new.end) result }
-        ensures later { S.faults source.old ≤ S.faults source.new }
+        ensures filled { Filled (S.seen source.old) (S.seen source.new) self.old.room self.new.room (pending self.new) result }
+        ensures later { (S.seen source.old).faults ≤ (S.seen source.new).faults }
         ensures line { (self.new.line.items ≡ self.old.line.items) × (self.new.is_long ≡ self.old.is_long) }
     {
         if self.room == 0 {
@@ -127,15 +106,10 @@ impl LineReader {
 
     /// Reads up to the next LF. Want of memory loses the line.
     pub fn next<S: Source>(&mut self, source: &mut S) -> Result<LineEnd, AllocError>
-        ensures line { IfOk result (λ end. ReadsLine
-            (prepend_known (slice_range self.old.buffer.items self.old.start self.old.end) (S.left source.old))
-            (prepend_known (slice_range self.new.buffer.items self.new.start self.new.end) (S.left source.new))
-            (S.faults source.old) (S.faults source.new)
-            (self.old.room + (self.old.end - self.old.start)) (self.new.room + (self.new.end - self.new.start))
-            self.new.line.items self.new.is_long end) }
-        ensures used { IfOk result (λ end. IsUsed end (slice_range self.new.buffer.items self.new.start self.new.end)) }
-        ensures err { OnErr result ((bytes : List ℕ) × (prepend_known (slice_range self.old.buffer.items self.old.start self.old.end) (S.left source.old)
-            ≡ prepend_known bytes (prepend_known (slice_range self.new.buffer.items self.new.start self.new.end) (S.left source.new)))) }
+        ensures line { IfOk result (ReadsLine (behind (pending self.old) (S.seen source.old)) (behind (pending self.new) (S.seen source.new))
+            (stock self.old) (stock self.new) self.new.line.items self.new.is_long) }
+        ensures used { IfOk result (λ end. IsUsed end (pending self.new)) }
+        ensures err { OnErr result (LosesLine (behind (pending self.old) (S.seen source.old)) (behind (pending self.new) (S.seen source.new)) (stock self.old) (stock self.new)) }
     {
         self.line.clear();
         self.is_long = false;

@@ -23,7 +23,7 @@ pub struct WriteFailed;
 
 /// Writes all of the bytes, in as many calls as it takes.
 pub fn write_all<K: Sink>(sink: &mut K, bytes: &[u8]) -> Result<(), WriteFailed>
-    ensures { HasWritten (K.written sink.old) (K.written sink.new) (K.faults sink.old) (K.faults sink.new) bytes.now result }
+    ensures { HasWritten (K.seen sink.old) (K.seen sink.new) bytes.now result }
 {
     let mut rest = bytes;
     while !rest.is_empty() {
@@ -37,7 +37,7 @@ pub fn write_all<K: Sink>(sink: &mut K, bytes: &[u8]) -> Result<(), WriteFailed>
 
 #[tactic(auto, using(crate::proofs::Written::first_failed))]
 fn write_two<K: Sink>(sink: &mut K, first: &[u8], second: &[u8]) -> Result<(), WriteFailed>
-    ensures { HasWritten (K.written sink.old) (K.written sink.new) (K.faults sink.old) (K.faults sink.new) (first.now ++ second.now) result }
+    ensures { HasWritten (K.seen sink.old) (K.seen sink.new) (first.now ++ second.now) result }
 {
     match write_all(sink, first) {
         Ok(()) => write_all(sink, second),
@@ -60,7 +60,7 @@ fn put(line: &mut [u8], at: usize, bytes: &[u8]) -> usize
 // Writes a word, what follows it and LF as one piece, which takes no memory.
 fn write_line<K: Sink>(sink: &mut K, word: &[u8], value: &[u8]) -> Result<(), WriteFailed>
     requires { length word.now + length value.now < 24 }
-    ensures { HasWritten (K.written sink.old) (K.written sink.new) (K.faults sink.old) (K.faults sink.new) (word.now ++ value.now ++ 10 ∷ []) result }
+    ensures { HasWritten (K.seen sink.old) (K.seen sink.new) (word.now ++ value.now ++ 10 ∷ []) result }
 {
     let mut line = [0u8; MAX_HEAD];
     let end = put(&mut line, 0, word);
@@ -72,7 +72,7 @@ fn write_line<K: Sink>(sink: &mut K, word: &[u8], value: &[u8]) -> Result<(), Wr
 // Writes the line before a payload of so many bytes.
 #[tactic(auto, unfolding(crate::specs::Replies::head_of))]
 fn write_head<K: Sink>(sink: &mut K, len: usize) -> Result<(), WriteFailed>
-    ensures { HasWritten (K.written sink.old) (K.written sink.new) (K.faults sink.old) (K.faults sink.new) (head_of len) result }
+    ensures { HasWritten (K.seen sink.old) (K.seen sink.new) (head_of len) result }
 {
     let mut digits = Buffer::new();
     write_line(sink, b"ok ", digits.format(len).as_bytes())
@@ -81,7 +81,7 @@ fn write_head<K: Sink>(sink: &mut K, len: usize) -> Result<(), WriteFailed>
 // Writes the line before the payload, the payload, and LF: three pieces, or two where the payload is empty.
 #[tactic(auto, using(crate::proofs::Written::first_failed))]
 fn write_ok<K: Sink>(sink: &mut K, payload: &[u8]) -> Result<(), WriteFailed>
-    ensures { HasWritten (K.written sink.old) (K.written sink.new) (K.faults sink.old) (K.faults sink.new) (text_of (accepted payload.now)) result }
+    ensures { HasWritten (K.seen sink.old) (K.seen sink.new) (text_of (accepted payload.now)) result }
 {
     match write_head(sink, payload.len()) {
         Ok(()) => write_two(sink, payload, b"\n"),
@@ -102,7 +102,7 @@ fn refusal_text(refusal: Refusal) -> &'static str
 /// Writes the text of a reply. The first line is offered as one piece, then the payload, then the last LF; what a write
 /// leaves of a piece is offered again. Takes no memory.
 pub fn write_reply<K: Sink>(sink: &mut K, reply: &Reply) -> Result<(), WriteFailed>
-    ensures { HasWritten (K.written sink.old) (K.written sink.new) (K.faults sink.old) (K.faults sink.new) (text_of (answer_of reply.now)) result }
+    ensures { HasWritten (K.seen sink.old) (K.seen sink.new) (text_of (answer_of reply.now)) result }
 {
     match reply {
         Reply::Ok(payload) => write_ok(sink, payload),

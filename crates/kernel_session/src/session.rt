@@ -1,22 +1,26 @@
 // A session from the first byte in to the last byte out.
-ghost use Rattle.std.specs.Prelude.{◌≡◌, ◌≢◌, ◌⊎◌, ◌↔◌, ◌^◌, ◌<◌, ◌≤◌, ◌||◌, ◌++◌, ℕ, false, List, Option, Some, length, vec_len};
+ghost use Rattle.std.specs.Prelude.{◌≡◌, ◌≢◌, ◌⊎◌, ◌↔◌, ◌^◌, ◌<◌, ◌≤◌, ◌||◌, ◌++◌, ℕ, false, List, Option, Some, length, vec_len, OnOk, OnErr, IfSome, IfNone};
 ghost use Rattle.std.specs.Bool.{Decides};
+ghost use Rattle.std.specs.Io.KnownBytes.{append_known};
 ghost use Rattle.std.specs.Option.{option_map};
-ghost use Rattle.frame_pool.specs.Meters.{HasRead};
 ghost use Rattle.outer_io.specs.Outer.{Rose};
+ghost use Rattle.commands.specs.Commands.{exit};
+ghost use Rattle.commands.specs.CommandView.{form_of_command};
 ghost use Rattle.kernel_session.specs.Lines.{IsKept, IsOneLine};
-ghost use Rattle.kernel_session.specs.Commands.{exit};
-ghost use Rattle.kernel_session.specs.CommandView.{form_of_command};
-ghost use Rattle.kernel_session.specs.Steps.{workspace, IsAnswered, IsLineAnswer, IsExit, IsExitLine};
-ghost use Rattle.kernel_session.specs.Replies.{HasWritten, text_if};
+ghost use Rattle.kernel_session.specs.LineAnswers.{IsAnswered, IsExit, Stops, line_form, is_refusal};
+ghost use Rattle.kernel_session.specs.Replies.{Answer, text_if};
 ghost use Rattle.kernel_session.specs.ReplyView.{answer_of};
-ghost use Rattle.kernel_session.specs.Sessions.{Ran, HasAnswered, is_refusal, number_of, IsShort, AreLines, joined, FileFaultsCount};
+ghost use Rattle.kernel_session.specs.Serving.{AnswersLine, TellsStop, MeetsFault, Serves, IsWhole, IsCutShort};
+ghost use Rattle.kernel_session.specs.Serving as serving;
+ghost use Rattle.kernel_session.specs.Sessions.{Ran, number_of, IsShort, AreLines, joined, FileFaultsCount, no_options};
+ghost use Rattle.kernel_session.specs.Steps.{Step};
+ghost use Rattle.kernel_session.specs.Workspaces.{workspace, state_of};
 
-use crate::blanks::{trimmed, without_return};
-use crate::command::{Command, Options, read_command};
 use crate::kernel::Kernel;
-use crate::lines::{LineEnd, LineReader};
+use crate::line_reader::LineReader;
+use crate::lines::LineEnd;
 use crate::reply::{Reply, WriteFailed, write_reply};
+use commands::{Command, Options, is_blank_line, read_command, without_return};
 use frame_pool::Meter;
 use outer_io::{Files, Sink, Source};
 use std::alloc::Global;
@@ -25,7 +29,7 @@ use tree_model::{Code, Refusal};
 /// How a session ended, and the status of the program.
 #[derive(Clone, Copy, Debug, PartialEq, Eq)]
 pub enum Status {
-    /// The script was served to its end or to EXIT: 1 where a reply was a refusal, else 0.
+    /// The script was served to its end or to a line that stops it: 1 where a reply was a refusal, else 0.
     Done(bool),
     /// There are words that aren't known: 2.
     BadWords,
@@ -46,7 +50,7 @@ fn is_exit(command: &Command<'_>) -> bool
     matches!(command, Command::Exit)
 }
 
-// What is answered to a line that isn't too long and isn't skipped, and whether it ends the session.
+// What is answered to a line that isn't too long and isn't skipped, and whether it is EXIT.
 fn reply_to<F: Files>(
     alloc: Global,
     line: &[u8],
@@ -56,21 +60,23 @@ fn reply_to<F: Files>(
     meter: &mut Meter,
 ) -> (Reply, bool)
     requires { length line.now ≤ 2 ^ 24 }
-    ensures answer { IsLineAnswer options (workspace kernel.old (F.map files.old) (F.faults files.old) (F.misses files.old) (F.overlong files.old)) line.now (answer_of result.0)
-        (workspace kernel.new (F.map files.new) (F.faults files.new) (F.misses files.new) (F.overlong files.new)) }
-    ensures meter { HasRead meter.old meter.new }
-    ensures ends { Decides result.1 (IsExitLine line.now) }
+    ensures answer { Step options (workspace (state_of kernel.old) (F.seen files.old) meter.old) (line_form line.now) (answer_of result.0)
+        (workspace (state_of kernel.new) (F.seen files.new) meter.new) }
+    ensures exit { Decides result.1 (line_form line.now ≡ exit) }
 {
     match read_command(line) {
         Ok(command) => {
-            let ends = is_exit(&command);
-            (kernel.execute(alloc, &command, files, options, meter), ends)
+            let exits = is_exit(&command);
+            (
+                kernel.execute(alloc, &command, files, options, meter),
+                exits,
+            )
         }
         Err(refusal) => (Reply::Err(refusal), false),
     }
 }
 
-// What is answered to a line, if it isn't skipped, and whether it ends the session.
+// What is answered to a line, if it isn't skipped, and whether it is EXIT.
 fn reply_if<F: Files>(
     alloc: Global,
     line: &[u8],
@@ -81,20 +87,19 @@ fn reply_if<F: Files>(
     meter: &mut Meter,
 ) -> (Option<Reply>, bool)
     requires { is_long ≡ false → length line.now ≤ 2 ^ 24 }
-    ensures answer { (l : List ℕ) → IsKept l line.now is_long → IsAnswered options (workspace kernel.old (F.map files.old) (F.faults files.old) (F.misses files.old) (F.overlong files.old)) l (option_map answer_of result.0)
-        (workspace kernel.new (F.map files.new) (F.faults files.new) (F.misses files.new) (F.overlong files.new)) }
-    ensures meter { HasRead meter.old meter.new }
-    ensures ends { (l : List ℕ) → IsKept l line.now is_long → Decides result.1 (IsExit l) }
+    ensures answer { AnswersLine options (workspace (state_of kernel.old) (F.seen files.old) meter.old) line.now is_long (option_map answer_of result.0)
+        (workspace (state_of kernel.new) (F.seen files.new) meter.new) }
+    ensures exit { (l : List ℕ) → IsKept l line.now is_long → Decides result.1 (IsExit l) }
 {
     if is_long {
         return (Some(Reply::Err(Refusal::Code(Code::XKLM0001))), false);
     }
     let line = without_return(line);
-    if trimmed(line).is_empty() {
+    if is_blank_line(line) {
         return (None, false);
     }
-    let (reply, ends) = reply_to(alloc, line, kernel, files, options, meter);
-    (Some(reply), ends)
+    let (reply, exits) = reply_to(alloc, line, kernel, files, options, meter);
+    (Some(reply), exits)
 }
 
 fn is_refused(reply: &Option<Reply>) -> bool
@@ -103,8 +108,18 @@ fn is_refused(reply: &Option<Reply>) -> bool
     matches!(reply, Some(Reply::Err(_)))
 }
 
+// A session after a line was served: whether a line was refused so far, and whether the session stops.
+#[derive(Clone, Copy, Debug, PartialEq, Eq)]
+pub struct Served {
+    pub refused: bool,
+    pub stops: bool,
+}
+
+// Writes a reply, if there is one.
 fn write_if<K: Sink>(sink: &mut K, reply: &Option<Reply>) -> Result<(), WriteFailed>
-    ensures { HasWritten (K.written sink.old) (K.written sink.new) (K.faults sink.old) (K.faults sink.new) (text_if (option_map answer_of reply.now)) result }
+    ensures later { (K.seen sink.old).faults ≤ (K.seen sink.new).faults }
+    ensures ok { OnOk result ((K.seen sink.new).written ≡ append_known (K.seen sink.old).written (text_if (option_map answer_of reply.now))) }
+    ensures err { OnErr result (MeetsFault (option_map answer_of reply.now) (K.seen sink.old) (K.seen sink.new)) }
 {
     match reply {
         Some(reply) => write_reply(sink, reply),
@@ -112,32 +127,22 @@ fn write_if<K: Sink>(sink: &mut K, reply: &Option<Reply>) -> Result<(), WriteFai
     }
 }
 
-// A session after a line was served: whether a line was refused so far, and whether the session ends.
-#[derive(Clone, Copy, Debug, PartialEq, Eq)]
-pub struct Served {
-    pub refused: bool,
-    pub ends: bool,
-}
-
 // Answers a line.
 fn serve<K: Sink, F: Files>(
     alloc: Global,
     reader: &LineReader,
     refused: bool,
+    options: Options,
     sink: &mut K,
     files: &mut F,
     kernel: &mut Kernel,
     meter: &mut Meter,
 ) -> Result<Served, WriteFailed>
     requires { reader.now.is_long ≡ false → vec_len reader.now.line ≤ 2 ^ 24 }
-    ensures answered { HasAnswered (workspace kernel.old (F.map files.old) (F.faults files.old) (F.misses files.old) (F.overlong files.old)) (workspace kernel.new (F.map files.new) (F.faults files.new) (F.misses files.new) (F.overlong files.new)) reader.now.line.items reader.now.is_long refused (K.written sink.old) (K.written sink.new) (K.faults sink.old) (K.faults sink.new) result }
-    ensures meter { HasRead meter.old meter.new }
+    ensures { Serves options (workspace (state_of kernel.old) (F.seen files.old) meter.old) (workspace (state_of kernel.new) (F.seen files.new) meter.new)
+        reader.now.line.items reader.now.is_long refused (K.seen sink.old) (K.seen sink.new) result }
 {
-    let options = Options {
-        plain: false,
-        strip: false,
-    };
-    let (reply, ends) = reply_if(
+    let (reply, exits) = reply_if(
         alloc,
         &reader.line,
         reader.is_long,
@@ -146,57 +151,68 @@ fn serve<K: Sink, F: Files>(
         options,
         meter,
     );
+    let is_refused = is_refused(&reply);
     match write_if(sink, &reply) {
         Ok(()) => Ok(Served {
-            refused: refused | is_refused(&reply),
-            ends,
+            refused: refused | is_refused,
+            stops: exits | (options.stop & is_refused),
         }),
         Err(e) => Err(e),
     }
 }
 
-// Reads commands to the end of the source or to EXIT, and writes a reply to each before it reads on.
+// Why what was read is no whole line.
+fn cut_short(end: LineEnd) -> Option<Status>
+    ensures some { IfSome result (IsCutShort end) }
+    ensures none { IfNone result (IsWhole end) }
+{
+    match end {
+        LineEnd::Failed => Some(Status::ReadFault),
+        LineEnd::Full => Some(Status::TooManyBytes),
+        LineEnd::Newline | LineEnd::EndOfScript => None,
+    }
+}
+
+fn ends_script(end: LineEnd) -> bool
+    ensures { result ≡ serving.ends_script end }
+{
+    matches!(end, LineEnd::EndOfScript)
+}
+
+// Reads commands to the end of the script or to a line that stops it, and writes a reply to each before it reads on.
 fn serve_lines<S: Source, K: Sink, F: Files>(
     alloc: Global,
-    source: &mut S,
+    options: Options,
+    script: &mut S,
     sink: &mut K,
     files: &mut F,
     kernel: &mut Kernel,
     meter: &mut Meter,
 ) -> Status
-    ensures ran { Ran (workspace kernel.old (F.map files.old) (F.faults files.old) (F.misses files.old) (F.overlong files.old)) (workspace kernel.new (F.map files.new) (F.faults files.new) (F.misses files.new) (F.overlong files.new)) (S.left source.old) (S.left source.new) (S.faults source.old) (S.faults source.new)
-        (K.written sink.old) (K.written sink.new) (K.faults sink.old) (K.faults sink.new) result }
+    ensures ran { Ran options (workspace (state_of kernel.old) (F.seen files.old) meter.old) (workspace (state_of kernel.new) (F.seen files.new) meter.new)
+        (S.seen script.old) (S.seen script.new) (K.seen sink.old) (K.seen sink.new) result }
     ensures words { result ≢ Status.BadWords }
-    ensures meter { HasRead meter.old meter.new }
 {
     let Ok(mut reader) = LineReader::new(alloc) else {
         return Status::NoMemory;
     };
     let mut refused = false;
     'lines: loop {
-        let end = match reader.next(source) {
+        let end = match reader.next(script) {
             Ok(end) => end,
             Err(_e) => return Status::NoMemory,
         };
-        match end {
-            LineEnd::Failed => return Status::ReadFault,
-            LineEnd::Full => return Status::TooManyBytes,
-            LineEnd::EndOfScript => match serve(
-                alloc, &reader, refused, sink, files, kernel, meter,
-            ) {
-                Ok(served) => return Status::Done(served.refused),
-                Err(_e) => return Status::WriteFault,
-            },
-            LineEnd::Newline => match serve(alloc, &reader, refused, sink, files, kernel, meter) {
-                Ok(served) => {
-                    if served.ends {
-                        return Status::Done(served.refused);
-                    }
-                    refused = served.refused;
-                }
-                Err(_e) => return Status::WriteFault,
-            },
+        if let Some(status) = cut_short(end) {
+            return status;
         }
+        let served = match serve(alloc, &reader, refused, options, sink, files, kernel, meter) {
+            Ok(served) => served,
+            Err(_e) => return Status::WriteFault,
+        };
+        if served.stops || ends_script(end) {
+            return Status::Done(served.refused);
+        }
+        refused = served.refused;
     }
 }
 
@@ -225,21 +241,26 @@ pub fn run<S: Source, K: Sink, F: Files>(
     meter: &mut Meter,
 ) -> u8
     // By status: which lines were taken, what was answered to each, and what was appended.
-    ensures ran { (status : Status) × (result ≡ number_of status) × Ran (workspace kernel.old (F.map files.old) (F.faults files.old) (F.misses files.old) (F.overlong files.old)) (workspace kernel.new (F.map files.new) (F.faults files.new) (F.misses files.new) (F.overlong files.new)) (S.left source.old) (S.left source.new) (S.faults source.old) (S.faults source.new)
-        (K.written sink.old) (K.written sink.new) (K.faults sink.old) (K.faults sink.new) status }
-    ensures meter { HasRead meter.old meter.new }
+    ensures ran { (status : Status) × (result ≡ number_of status)
+        × Ran no_options (workspace (state_of kernel.old) (F.seen files.old) meter.old) (workspace (state_of kernel.new) (F.seen files.new) meter.new)
+        (S.seen source.old) (S.seen source.new) (K.seen sink.old) (K.seen sink.new) status }
     ensures words { (result ≡ 2) ↔ (0 < length words.now) }
-    ensures read { result ≡ 3 → Rose (S.faults source.old) (S.faults source.new) }
-    ensures write { result ≡ 4 → Rose (K.faults sink.old) (K.faults sink.new) }
+    ensures read { result ≡ 3 → Rose (S.seen source.old).faults (S.seen source.new).faults }
+    ensures write { result ≡ 4 → Rose (K.seen sink.old).faults (K.seen sink.new).faults }
     // Where nothing fails and the script is short enough, it is served to its end or to EXIT; only memory may be wanting.
-    ensures complete { length words.now ≡ 0 → (bytes : List ℕ) → S.left source.old ≡ Some bytes → IsShort bytes
-        → (Rose (S.faults source.old) (S.faults source.new) → ⊥) → (Rose (K.faults sink.old) (K.faults sink.new) → ⊥)
+    ensures complete { length words.now ≡ 0 → (bytes : List ℕ) → (S.seen source.old).left ≡ Some bytes → IsShort bytes
+        → (Rose (S.seen source.old).faults (S.seen source.new).faults → ⊥) → (Rose (K.seen sink.old).faults (K.seen sink.new).faults → ⊥)
         → (result ≡ 0) ⊎ (result ≡ 1) ⊎ (result ≡ 5) }
 {
     if !words.is_empty() {
         return number_of(Status::BadWords);
     }
-    number_of(serve_lines(alloc, source, sink, files, kernel, meter))
+    let options = Options {
+        plain: false,
+        strip: false,
+        stop: false,
+    };
+    number_of(serve_lines(alloc, options, source, sink, files, kernel, meter))
 }
 
 /// A reply that a call on a file failed has a rise of the files' count of faults to itself.

@@ -3,6 +3,8 @@ use Rattle.std.specs.Prelude.{◌≡◌, ℕ, Bool, List, [], ◌∷◌, ◌++�
 use Rattle.std.specs.Option.{option_map}
 use Rattle.std.proofs.Common.{ap, sym, ◌∙◌}
 use Rattle.tree_model.specs.declared.axis.Axis.{Axis}
+use Rattle.tree_model.specs.declared.axis.Test.{Test}
+use Rattle.tree_model.specs.declared.function.Function.{Function}
 use Rattle.query_terms.specs.declared.parts.Span.{Span}
 use Rattle.query_terms.specs.declared.parts.QName.{QName}
 use Rattle.query_terms.specs.declared.parts.Literal.{Literal}
@@ -35,7 +37,7 @@ use Rattle.std.specs.Prelude.{Result, Ok, Err}
 use Rattle.std.specs.declared.alloc.AllocError.{AllocError}
 use Rattle.query_terms.specs.Static.{Environment}
 use Rattle.name_scopes.specs.Declares.{characters_in, declared_of, text_of}
-use Rattle.query_terms.specs.Resolved.{Resolution, ContentResolution, AttributeResolution, in_attribute, in_clause, in_content, in_expression, in_key, in_operand, in_step, resolved, clause, content, attribute, operand, key, step, each, perhaps, maybe_variable, resolved_variable, resolved_test, scope_of, each_content, bare_name, function_name, computed_name}
+use Rattle.query_terms.specs.Resolved.{Resolution, ContentResolution, AttributeResolution, in_attribute, in_clause, in_content, in_expression, in_key, in_operand, in_step, resolved, clause, content, attribute, operand, key, step, each, perhaps, maybe_variable, resolved_variable, resolved_test, scope_of, each_content, bare_name, function_name, computed_name, axis_step, function_call}
 
 resolved_roll : (x : Expr-F Clause Content Expr Attribute Operand OrderKey PathStep) → resolved (roll-Expr x) ≡ in_expression (map-Expr Clause Content Expr Attribute Operand OrderKey PathStep (Resolution Clause) ContentResolution (Resolution Expr) AttributeResolution (Resolution Operand) (Resolution OrderKey) (Resolution PathStep) clause content resolved attribute operand key step x)
 unfolding clause content resolved attribute operand key step
@@ -110,8 +112,8 @@ path_is span start first others bindings = ap (λ (r : Resolution Expr). r bindi
 pub filter_is : (span : Span) (head : Expr) (predicates : List Expr) (bindings : List Binding) → resolved (exprs.Filter span head predicates) bindings ≡ exprs.Filter span (resolved head bindings) (each (map resolved predicates) bindings)
 filter_is span head predicates bindings = ap (λ (r : Resolution Expr). r bindings) (ap resolved (sym (exprs.rolls-Filter span head predicates)) ∙ resolved_roll (Expr-F.Filter span head predicates))
 
-pub axis_step_is : (span : Span) (axis : Axis) (test : NodeTest) (bindings : List Binding) → resolved (exprs.AxisStep span axis test) bindings ≡ exprs.AxisStep span axis (resolved_test axis test bindings)
-axis_step_is span axis test bindings = ap (λ (r : Resolution Expr). r bindings) (ap resolved (sym (exprs.rolls-AxisStep span axis test)) ∙ resolved_roll (Expr-F.AxisStep span axis test))
+pub axis_step_is : (span : Span) (axis : Axis) (test : NodeTest) (tested : Option Test) (bindings : List Binding) → resolved (exprs.AxisStep span axis test tested) bindings ≡ axis_step span axis (resolved_test axis test bindings)
+axis_step_is span axis test tested bindings = ap (λ (r : Resolution Expr). r bindings) (ap resolved (sym (exprs.rolls-AxisStep span axis test tested)) ∙ resolved_roll (Expr-F.AxisStep span axis test tested))
 
 pub number_is : (span : Span) (text : List ℕ) (bindings : List Binding) → resolved (exprs.Number span text) bindings ≡ exprs.Number span text
 number_is span text bindings = ap (λ (r : Resolution Expr). r bindings) (ap resolved (sym (exprs.rolls-Number span text)) ∙ resolved_roll (Expr-F.Number span text))
@@ -146,8 +148,8 @@ computed_by_value_is span kind name scope (Some e) bindings = ap (λ (r : Resolu
 pub computed_unnamed_is : (span : Span) (kind : UnnamedKind) (body : Expr) (bindings : List Binding) → resolved (exprs.ComputedUnnamed span kind body) bindings ≡ exprs.ComputedUnnamed span kind (resolved body bindings)
 computed_unnamed_is span kind body bindings = ap (λ (r : Resolution Expr). r bindings) (ap resolved (sym (exprs.rolls-ComputedUnnamed span kind body)) ∙ resolved_roll (Expr-F.ComputedUnnamed span kind body))
 
-pub call_is : (span : Span) (name : QName) (arguments : List Expr) (bindings : List Binding) → resolved (exprs.Call span name arguments) bindings ≡ exprs.Call span (function_name bindings name) (each (map resolved arguments) bindings)
-call_is span name arguments bindings = ap (λ (r : Resolution Expr). r bindings) (ap resolved (sym (exprs.rolls-Call span name arguments)) ∙ resolved_roll (Expr-F.Call span name arguments))
+pub call_is : (span : Span) (name : QName) (arguments : List Expr) (function : Option Function) (bindings : List Binding) → resolved (exprs.Call span name arguments function) bindings ≡ function_call span (function_name bindings name) (each (map resolved arguments) bindings)
+call_is span name arguments function bindings = ap (λ (r : Resolution Expr). r bindings) (ap resolved (sym (exprs.rolls-Call span name arguments function)) ∙ resolved_roll (Expr-F.Call span name arguments function))
 
 pub for_is : (v : Variable) (position : Option Variable) (source : Expr) (bindings : List Binding) → clause (clauses.For v position source) bindings ≡ clauses.For (resolved_variable v bindings) (maybe_variable position bindings) (resolved source bindings)
 for_is v position source bindings = ap (λ (r : Resolution Clause). r bindings) (ap clause (sym (clauses.rolls-For v position source)) ∙ clause_roll (Clause-F.For v position source))

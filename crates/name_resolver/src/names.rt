@@ -6,7 +6,7 @@ use name_scopes::{Environment, FUNCTIONS_URI};
 use query_terms::{Binding, ComputedKind, Literal, NodeTest, QName, Scope, Variable};
 use sqlite_items::Items;
 use std::alloc::Global;
-use tree_model::{Axis, Name, NoMemory, Text};
+use tree_model::{Axis, Function, Name, NoMemory, Test, Text};
 
 fn with_uri(alloc: Global, uri: &str, name: &QName) -> Result<QName, NoMemory>
     ensures { IfOk result (λ q. q ≡ spec.with_uri uri.now name.now) }
@@ -129,6 +129,65 @@ pub(crate) fn test(
         NodeTest::LocalName(local) => Ok(NodeTest::LocalName(local.copy()?)),
         NodeTest::Namespace(name) => Ok(NodeTest::Namespace(bare_name(alloc, environment, name)?)),
         NodeTest::Name(name) => Ok(NodeTest::Name(tested_name(alloc, environment, axis, name)?)),
+    }
+}
+
+// The test that a walk takes, of one whose names have their URIs.
+#[tactic(auto, unfolding(query_terms::specs::Resolved::walked_test))]
+pub(crate) fn walked_test(test: &NodeTest) -> Result<Test, NoMemory>
+    ensures { IfOk result (λ t. t ≡ spec.walked_test test.now) }
+{
+    match test {
+        NodeTest::Node => Ok(Test::Node),
+        NodeTest::Text => Ok(Test::Text),
+        NodeTest::Comment => Ok(Test::Comment),
+        NodeTest::Document => Ok(Test::Document),
+        NodeTest::Instruction(None) => Ok(Test::Pi(None)),
+        NodeTest::Instruction(Some(target)) => Ok(Test::Pi(Some(target.text.copy()?))),
+        NodeTest::Element(None) => Ok(Test::Element {
+            uri: None,
+            local: None,
+        }),
+        NodeTest::Element(Some(name)) => Ok(Test::Element {
+            uri: Some(name.name.uri.copy()?),
+            local: Some(name.name.local.copy()?),
+        }),
+        NodeTest::Attribute(None) => Ok(Test::Attribute {
+            uri: None,
+            local: None,
+        }),
+        NodeTest::Attribute(Some(name)) => Ok(Test::Attribute {
+            uri: Some(name.name.uri.copy()?),
+            local: Some(name.name.local.copy()?),
+        }),
+        NodeTest::Any => Ok(Test::Principal {
+            uri: None,
+            local: None,
+        }),
+        NodeTest::LocalName(local) => Ok(Test::Principal {
+            uri: None,
+            local: Some(local.copy()?),
+        }),
+        NodeTest::Namespace(name) => Ok(Test::Principal {
+            uri: Some(name.name.uri.copy()?),
+            local: None,
+        }),
+        NodeTest::Name(name) => Ok(Test::Principal {
+            uri: Some(name.name.uri.copy()?),
+            local: Some(name.name.local.copy()?),
+        }),
+    }
+}
+
+// The function of a name that has its URI.
+#[tactic(auto, unfolding(query_terms::specs::Resolved::called_function))]
+pub(crate) fn called_function(name: &QName) -> Option<Function>
+    ensures { result ≡ spec.called_function name.now }
+{
+    if name.name.uri.as_str() == FUNCTIONS_URI {
+        Function::named(name.name.local.as_str())
+    } else {
+        None
     }
 }
 

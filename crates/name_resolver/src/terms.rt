@@ -5,16 +5,18 @@ ghost use Rattle.query_terms.specs.Static.{declared_in};
 ghost use Rattle.name_scopes.specs.Declares.{declared_of};
 ghost use Rattle.name_resolver.specs.Gives.{Gives, Resolves, element};
 
-use crate::names::{computed_name, element_name, function_name, scope};
+use crate::names::{
+    called_function, computed_name, element_name, function_name, scope, test, walked_test,
+};
 use crate::resolver::Resolver;
 use name_scopes::{Environment, declare_all};
 use query_terms::{
-    Attribute, Clause, Comparator, ComputedKind, Content, Expr, Operand, OrderKey, PathStart,
-    PathStep, Place, QName, Quantifier, Span, UnnamedKind,
+    Attribute, Clause, Comparator, ComputedKind, Content, Expr, NodeTest, Operand, OrderKey,
+    PathStart, PathStep, Place, QName, Quantifier, Span, UnnamedKind,
 };
 use sqlite_items::Boxed;
 use std::alloc::Global;
-use tree_model::NoMemory;
+use tree_model::{Axis, NoMemory};
 
 impl<F: Fn(Global, usize, &mut Environment, &Expr) -> Result<Expr, NoMemory>> Resolver<F> {
     pub(crate) fn comma(
@@ -467,14 +469,35 @@ impl<F: Fn(Global, usize, &mut Environment, &Expr) -> Result<Expr, NoMemory>> Re
         arguments: &[Expr],
     ) -> Result<Expr, NoMemory>
         requires { Resolves self.now.depth (F.pre self.now.resolve) (F.post self.now.resolve) }
-        ensures { Gives (λ b. Expr.Call span (spec.function_name b name.now) (spec.each (map spec.resolved arguments.now) b)) result environment.old environment.new }
+        ensures { Gives (λ b. spec.function_call span (spec.function_name b name.now) (spec.each (map spec.resolved arguments.now) b)) result environment.old environment.new }
     {
         let name = function_name(self.alloc, environment, name)?;
         let arguments = self.all(environment, arguments)?;
+        let function = called_function(&name);
         Ok(Expr::Call {
             span,
             name,
             arguments,
+            function,
+        })
+    }
+
+    pub(crate) fn axis_step(
+        &self,
+        environment: &mut Environment,
+        span: Span,
+        axis: Axis,
+        written: &NodeTest,
+    ) -> Result<Expr, NoMemory>
+        ensures { Gives (λ b. spec.axis_step span axis (spec.resolved_test axis written.now b)) result environment.old environment.new }
+    {
+        let test = test(self.alloc, environment, axis, written)?;
+        let tested = Some(walked_test(&test)?);
+        Ok(Expr::AxisStep {
+            span,
+            axis,
+            test,
+            tested,
         })
     }
 

@@ -4,7 +4,7 @@ ghost use Rattle.query_terms.specs.Resolved as spec;
 ghost use Rattle.query_terms.specs.Static.{prolog_bindings};
 ghost use Rattle.name_resolver.specs.Gives.{Gives, Resolves};
 
-use crate::names::{literal, test, variable};
+use crate::names::{literal, variable};
 use crate::resolver::Resolver;
 use name_scopes::{Environment, MAX_DEPTH};
 use query_terms::{Declaration, Expr};
@@ -158,6 +158,7 @@ impl<F: Fn(Global, usize, &mut Environment, &Expr) -> Result<Expr, NoMemory>> Re
                 span,
                 name,
                 arguments,
+                ..
             } => self.call(environment, *span, name, arguments.as_slice()),
             Expr::Element {
                 span,
@@ -174,12 +175,9 @@ impl<F: Fn(Global, usize, &mut Environment, &Expr) -> Result<Expr, NoMemory>> Re
             Expr::AxisStep {
                 span,
                 axis,
-                test: tested,
-            } => Ok(Expr::AxisStep {
-                span: *span,
-                axis: *axis,
-                test: test(self.alloc, environment, *axis, tested)?,
-            }),
+                test,
+                ..
+            } => self.axis_step(environment, *span, *axis, test),
             Expr::Variable { variable: named } => Ok(Expr::Variable {
                 variable: variable(self.alloc, environment, named)?,
             }),

@@ -4,7 +4,7 @@ use Rattle.std.specs.Prelude.{◌⊎◌}
 use Rattle.tree_model.specs.Axes.{attributes, below}
 use Rattle.tree_model.specs.Labels.{Label}
 use Rattle.tree_model.specs.Forest.{Forest}
-use Rattle.tree_model.specs.Nodes.{Node, nodes, children, tops_from}
+use Rattle.tree_model.specs.Nodes.{Node, nodes, children, root_nodes_from}
 use Rattle.tree_model.specs.Sound.{is_attr}
 use Rattle.tree_model.specs.declared.row.Row.{Row}
 use Rattle.tree_model.specs.declared.text.Name.{Name}
@@ -12,7 +12,7 @@ use Rattle.tree_model.proofs.Relations.{weight, HasParent, has_parent, inside_in
 use Rattle.tree_model.proofs.Standing.{IsIn, in_append, in_right, node_places}
 use Rattle.node_table.specs.Laid.{IsLaid, dist_at, size_at, asize_at, is_attr_at, up}
 use Rattle.node_table.specs.Views.{view_of, view_forest, KeepsTrees}
-use Rattle.node_table.proofs.NodeRows.{IsRowOf, some_row, root_row, child_row, attribute_row, node_of, node_inside, ends_within, Kin, root, child, attribute, kin, own_kinds, tops_plain, attrs_marked, later}
+use Rattle.node_table.proofs.NodeRows.{IsRowOf, some_row, root_row, child_row, attribute_row, node_of, node_inside, ends_within, Kin, root, child, attribute, kin, own_kinds, roots_plain, attrs_marked, later}
 
 pub clash : (b : Bool) {A : Type 0} → b ≡ true → b ≡ false → A
 clash true e f = absurd cc
@@ -72,7 +72,7 @@ module _ (names : List Name) (values : List ℕ) (rows : List Row) (trees : Keep
           let far = later (x.place + (1 + length x.attrs)) _ (below x) y (node_places (x.place + (1 + length x.attrs)) x.kids) k in
           (omega (arith, r.dist, b.0), omega (arith, r.dist, b.0, far))
 
-      deeper : IsIn (tops_from (x.place + (1 + length x.attrs)) x.kids) w ⊎ HasParent (x.place + (1 + length x.attrs)) x.kids w → (0 < d_of w.place) × (x.place ≤ up rows w.place)
+      deeper : IsIn (root_nodes_from (x.place + (1 + length x.attrs)) x.kids) w ⊎ HasParent (x.place + (1 + length x.attrs)) x.kids w → (0 < d_of w.place) × (x.place ≤ up rows w.place)
       deeper (inl c) = let r = child_row names values rows trees x w h c in let b = child_at x w c in (omega (arith, r.dist, b.0), omega (arith, r.dist, b.0))
       deeper (inr y) = by_parent y.0 y.1 y.2
 
@@ -104,7 +104,7 @@ module _ (names : List Name) (values : List ℕ) (rows : List Row) (trees : Keep
   marked y w h c = attrs_marked (y.place + 1) y.attrs w (own_kinds 0 f y trees.kinds h).1 c
 
   pub plain : (y w : Node Label) → IsIn (nodes f) y → IsIn (children y) w → is_attr w.label ≡ false
-  plain y w h c = tops_plain (y.place + (1 + length y.attrs)) y.kids w (own_kinds 0 f y trees.kinds h).2 c
+  plain y w h c = roots_plain (y.place + (1 + length y.attrs)) y.kids w (own_kinds 0 f y trees.kinds h).2 c
 
   attributes_of : (x : Node Label) → IsIn (nodes f) x → (w : Node Label) → IsIn (attributes x ++ below x) w → w.place < x.place + (1 + length x.attrs)
       → (d_of w.place ≡ w.place - x.place) × (is_a w.place ≡ true) × (s_of w.place ≡ 1)

@@ -8,16 +8,16 @@ use Rattle.std.proofs.lemmas.List.{get_or-map, get_or_at, length-map, map-append
 use Rattle.tree_model.specs.Axes.{attributes, below}
 use Rattle.tree_model.specs.Forest.{Forest, none, tree, count, Line, attr_lines, lines, flatten}
 use Rattle.tree_model.specs.Labels.{Label}
-use Rattle.tree_model.specs.Nodes.{Node, attr_nodes, nodes_from, nodes, tops_from, children}
+use Rattle.tree_model.specs.Nodes.{Node, attr_nodes, nodes_from, nodes, root_nodes_from, children}
 use Rattle.tree_model.specs.Rows.{label_of, line_of}
-use Rattle.tree_model.specs.Sound.{AllTops, is_attr}
+use Rattle.tree_model.specs.Sound.{AllRoots, is_attr}
 use Rattle.tree_model.specs.Trees.{length-lines, length-attr_lines}
 use Rattle.tree_model.specs.declared.row.Kind.{Kind}
 use Rattle.tree_model.specs.declared.row.Kind.TheVariants.{Doc, Elem, Text, Attr, Comm, Pi}
 use Rattle.tree_model.specs.declared.row.Row.{Row}
 use Rattle.tree_model.specs.declared.text.Name.{Name}
 use Rattle.tree_model.proofs.Relations.{weight, has_parent, inside_in, attribute_line, child_line, root_line}
-use Rattle.tree_model.proofs.Standing.{IsIn, in_append, in_left, own_line, stands, tops_in, children_in, place_below, attr_places, range-append, node_places}
+use Rattle.tree_model.proofs.Standing.{IsIn, in_append, in_left, own_line, stands, roots_in, children_in, place_below, attr_places, range-append, node_places}
 use Rattle.node_table.specs.Laid.{no_row, row_at, is_attribute, dist_at, size_at, asize_at, is_attr_at}
 use Rattle.node_table.specs.Views.{view_of, view_forest, is_no_attr, HasKinds, KeepsTrees, places_of}
 
@@ -127,10 +127,10 @@ kinds_agree Pi id name value = refl
 pub attr_kind : (label : Label) → is_attr label ≡ is_attribute label.kind
 attr_kind label = kinds_agree label.kind label.id label.name label.value
 
-pub tops_plain : (n : ℕ) (f : Forest Label) (x : Node Label) → AllTops is_no_attr f → IsIn (tops_from n f) x → is_attr x.label ≡ false
-tops_plain n none x plain h = absurd h
-tops_plain n (tree label attrs kids rest) x plain (inl e) = sym (ap (λ (y : Node Label). is_attr y.label) e) ∙ not-true (is_attr label) plain.0
-tops_plain n (tree label attrs kids rest) x plain (inr h) = tops_plain (n + (1 + length attrs + count kids)) rest x plain.1 h
+pub roots_plain : (n : ℕ) (f : Forest Label) (x : Node Label) → AllRoots is_no_attr f → IsIn (root_nodes_from n f) x → is_attr x.label ≡ false
+roots_plain n none x plain h = absurd h
+roots_plain n (tree label attrs kids rest) x plain (inl e) = sym (ap (λ (y : Node Label). is_attr y.label) e) ∙ not-true (is_attr label) plain.0
+roots_plain n (tree label attrs kids rest) x plain (inr h) = roots_plain (n + (1 + length attrs + count kids)) rest x plain.1 h
 
 pub attrs_marked : (n : ℕ) (attrs : List Label) (x : Node Label) → list_all is_attr attrs ≡ true → IsIn (attr_nodes n attrs) x → is_attr x.label ≡ true
 attrs_marked n [] x all h = absurd h
@@ -138,7 +138,7 @@ attrs_marked n (a ∷ attrs) x all (inl e) = sym (ap (λ (y : Node Label). is_at
 attrs_marked n (a ∷ attrs) x all (inr h) = attrs_marked (suc n) attrs x (and_parts (is_attr a) (list_all is_attr attrs) all).1 h
 
 abbrev pub Own : Node Label → Type 0
-Own y = HasKinds y.kids × (list_all is_attr y.attrs ≡ true) × AllTops is_no_attr y.kids
+Own y = HasKinds y.kids × (list_all is_attr y.attrs ≡ true) × AllRoots is_no_attr y.kids
 
 attr_kinds : (n : ℕ) (attrs : List Label) (y : Node Label) → IsIn (attr_nodes n attrs) y → Own y
 attr_kinds n [] y h = absurd h
@@ -203,8 +203,8 @@ module _ (names : List Name) (values : List ℕ) (rows : List Row) (trees : Keep
       let s = stands 0 0 f x h in
       (s.dist, row_of x s.dist h (λ z. ap (λ l. get_or l x.place z) s.are ∙ get_or_at s.before (own_line s.dist x) (attr_lines 1 x.attrs ++ (lines (1 + length x.attrs) x.kids ++ s.behind)) z x.place (omega (arith, s.at))))
 
-  pub root_row : (x : Node Label) → IsIn (tops_from 0 f) x → IsRowOf names values rows 0 x
-  root_row x t = row_of x 0 (tops_in 0 f x t) (λ z. root_line f x z t)
+  pub root_row : (x : Node Label) → IsIn (root_nodes_from 0 f) x → IsRowOf names values rows 0 x
+  root_row x t = row_of x 0 (roots_in 0 f x t) (λ z. root_line f x z t)
 
   pub child_row : (y x : Node Label) → IsIn (nodes f) y → IsIn (children y) x → IsRowOf names values rows (x.place - y.place) x
   child_row y x h c = row_of x (x.place - y.place) (children_in 0 f y x h c) (λ z. child_line f y x z h c)
@@ -240,7 +240,7 @@ module _ (names : List Name) (values : List ℕ) (rows : List Row) (trees : Keep
 
   -- how a node that is no root stands to its parent
   pub data Kin (w : Node Label) : Type 0 where
-    root : IsIn (tops_from 0 f) w → Kin w
+    root : IsIn (root_nodes_from 0 f) w → Kin w
     child : (y : Node Label) → IsIn (nodes f) y → IsIn (children y) w → Kin w
     attribute : (y : Node Label) → IsIn (nodes f) y → IsIn (attributes y) w → Kin w
 

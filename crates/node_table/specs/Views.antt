@@ -5,7 +5,7 @@ use Rattle.tree_model.specs.Forest.{Forest, none, tree, Line, grove_of, IsFlat}
 use Rattle.tree_model.specs.Labels.{Label}
 use Rattle.tree_model.specs.Nodes.{Node}
 use Rattle.tree_model.specs.Rows.{lines_of, ArePlaced}
-use Rattle.tree_model.specs.Sound.{AllTops, is_attr}
+use Rattle.tree_model.specs.Sound.{AllRoots, is_attr}
 use Rattle.tree_model.specs.declared.row.Row.{Row}
 use Rattle.tree_model.specs.declared.text.Name.{Name}
 use Rattle.node_table.specs.declared.part.Part.{Part}
@@ -35,7 +35,7 @@ is_no_attr label = not (is_attr label)
 -- what stands in a list of attributes is an attribute, and no child is one. A root may be of any kind
 abbrev pub HasKinds : Forest Label → Type 0
 HasKinds none = Unit {0}
-HasKinds (tree label attrs kids rest) = (list_all is_attr attrs ≡ true) × AllTops is_no_attr kids × HasKinds kids × HasKinds rest
+HasKinds (tree label attrs kids rest) = (list_all is_attr attrs ≡ true) × AllRoots is_no_attr kids × HasKinds kids × HasKinds rest
 
 -- the rows are those of the trees that they say, each with a name among the names and a value among the bytes
 pub record KeepsTrees (view : TableView) : Type 0 where

@@ -1,7 +1,16 @@
--- What a read of a source that never fails answers and gives.
-use Rattle.std.specs.Prelude.{ℕ, min, List, ◌++◌, length, take, drop, ◌==◌, if◌then◌else◌}
+-- What a source and a sink that never fail tell, and what a read answers and gives.
+use Rattle.std.specs.Prelude.{ℕ, min, List, ◌++◌, length, take, drop, ◌==◌, Some, None, if◌then◌else◌}
+use Rattle.outer_io.specs.Outer.{SourceSeen, SinkSeen}
 use Rattle.outer_io.specs.declared.outer.ReadStep.{ReadStep}
 use Rattle.outer_io.specs.declared.outer.ReadStep.TheVariants.{Got, End}
+
+-- the source tells what is left
+abbrev pub calm_source_seen : List ℕ → SourceSeen
+calm_source_seen left = record { left = Some left; faults = 0 }
+
+-- the sink does not tell what was written
+abbrev pub calm_sink_seen : SinkSeen
+calm_sink_seen = record { written = None; faults = 0 }
 
 abbrev pub calm_answer : List ℕ → ℕ → ReadStep
 calm_answer left room = if length left == 0 then End else Got (min (length left) room)

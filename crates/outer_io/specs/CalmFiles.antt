@@ -1,7 +1,7 @@
 -- The states of files that never fail, and what one call makes of them.
-use Rattle.std.specs.Prelude.{ℕ, List}
+use Rattle.std.specs.Prelude.{ℕ, List, Some}
 use Rattle.outer_io.specs.Memory.{counted}
-use Rattle.outer_io.specs.Files.{Entry, file_in}
+use Rattle.outer_io.specs.Files.{Entry, FilesSeen, file_in}
 use Rattle.outer_io.specs.MemoryFiles.{ReadAnswer, file, missing, too_long, failed, found_answer, after_put}
 use Rattle.outer_io.specs.declared.files.FileWrite.{FileWrite}
 
@@ -10,6 +10,10 @@ pub record CalmFilesState : Type 0 where
   pub map : List Entry
   pub misses : ℕ
   pub overlong : ℕ
+
+-- the files tell what stands under each name, and never fail
+abbrev pub calm_files_seen : CalmFilesState → FilesSeen
+calm_files_seen s = record { map = Some s.map; faults = 0; misses = s.misses; overlong = s.overlong }
 
 abbrev pub calm_files : List Entry → CalmFilesState
 calm_files entries = record { map = entries; misses = 0; overlong = 0 }

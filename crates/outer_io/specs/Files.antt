@@ -28,23 +28,20 @@ have_different_names [] = true
 have_different_names (entry ∷ more) = is_none (file_in entry.name more) && have_different_names more
 
 -- what is seen of files: the map, where it is told, and how often a call failed, how often a read found no file, and how often one found too many bytes
-pub record Seen : Type 0 where
+pub record FilesSeen : Type 0 where
   pub map : Option (List Entry)
   pub faults : ℕ
   pub misses : ℕ
   pub overlong : ℕ
 
-abbrev pub seen : Option (List Entry) → ℕ → ℕ → ℕ → Seen
-seen map faults misses overlong = record { map = map; faults = faults; misses = misses; overlong = overlong }
-
 -- no count has fallen
-pub record NoneFell (before now : Seen) : Type 0 where
+pub record NoneFell (before now : FilesSeen) : Type 0 where
   pub faults : before.faults ≤ now.faults
   pub misses : before.misses ≤ now.misses
   pub overlong : before.overlong ≤ now.overlong
 
 -- what a read of at most so many bytes found, by its answer
-abbrev pub FileReadDid : Seen → Seen → List ℕ → ℕ → FileRead → Type 0
+abbrev pub FileReadDid : FilesSeen → FilesSeen → List ℕ → ℕ → FileRead → Type 0
 FileReadDid before now name limit (read.Bytes bytes) = (length bytes.items ≤ limit) × IfSome before.map (λ entries. file_in name entries ≡ Some bytes.items)
 FileReadDid before now name limit read.Missing = Rose before.misses now.misses × IfSome before.map (λ entries. file_in name entries ≡ None)
 FileReadDid before now name limit read.TooLong =
@@ -53,7 +50,7 @@ FileReadDid before now name limit read.Failed = Rose before.faults now.faults
 FileReadDid before now name limit read.NoMemory = Unit {0}
 
 -- a read changes no file
-pub record FileReads (before now : Seen) (name : List ℕ) (limit : ℕ) (answer : FileRead) : Type 0 where
+pub record FileReads (before now : FilesSeen) (name : List ℕ) (limit : ℕ) (answer : FileRead) : Type 0 where
   pub same : now.map ≡ before.map
   pub later : NoneFell before now
   pub did : FileReadDid before now name limit answer
@@ -66,11 +63,11 @@ OthersStay name (Some old) None = ⊥
 OthersStay name (Some old) (Some new) = (other : List ℕ) → other ≢ name → file_in other new ≡ file_in other old
 
 -- what a write did, by its answer
-abbrev pub FileWriteDid : Seen → Seen → List ℕ → List ℕ → FileWrite → Type 0
+abbrev pub FileWriteDid : FilesSeen → FilesSeen → List ℕ → List ℕ → FileWrite → Type 0
 FileWriteDid before now name bytes write.Done = now.map ≡ option_map (with_file name bytes) before.map
 FileWriteDid before now name bytes write.Failed = Rose before.faults now.faults × OthersStay name before.map now.map
 FileWriteDid before now name bytes write.NoMemory = now.map ≡ before.map
 
-pub record FileWrites (before now : Seen) (name bytes : List ℕ) (answer : FileWrite) : Type 0 where
+pub record FileWrites (before now : FilesSeen) (name bytes : List ℕ) (answer : FileWrite) : Type 0 where
   pub later : NoneFell before now
   pub did : FileWriteDid before now name bytes answer

@@ -1,6 +1,7 @@
 -- The states of a source and of a sink in memory, and what one call makes of them.
-use Rattle.std.specs.Prelude.{ℕ, ◌+◌, ◌-◌, ◌^◌, min, Bool, true, List, [], ◌++◌, length, take, drop, ◌==◌, if◌then◌else◌}
+use Rattle.std.specs.Prelude.{ℕ, ◌+◌, ◌-◌, ◌^◌, min, Bool, true, List, [], ◌++◌, length, take, drop, ◌==◌, Some, if◌then◌else◌}
 use Rattle.std.specs.List.{list_any}
+use Rattle.outer_io.specs.Outer.{SourceSeen, SinkSeen}
 use Rattle.outer_io.specs.declared.outer.ReadStep.{ReadStep}
 use Rattle.outer_io.specs.declared.outer.ReadStep.TheVariants.{Got, End, Failed}
 use Rattle.outer_io.specs.declared.outer.WriteStep.{WriteStep}
@@ -21,6 +22,10 @@ pub record MemSourceState : Type 0 where
   pub fails : List ℕ
   pub calls : ℕ
   pub faults : ℕ
+
+-- the source tells what is left
+abbrev pub source_seen : MemSourceState → SourceSeen
+source_seen s = record { left = Some s.left; faults = s.faults }
 
 abbrev pub fresh_source : List ℕ → ℕ → List ℕ → MemSourceState
 fresh_source bytes piece fails = record { left = bytes; piece = piece; fails = fails; calls = 0; faults = 0 }
@@ -53,6 +58,10 @@ pub record MemSinkState : Type 0 where
   pub fails : List ℕ
   pub calls : ℕ
   pub faults : ℕ
+
+-- the sink tells what was written
+abbrev pub sink_seen : MemSinkState → SinkSeen
+sink_seen s = record { written = Some s.bytes; faults = s.faults }
 
 abbrev pub fresh_sink : ℕ → ℕ → List ℕ → MemSinkState
 fresh_sink room piece fails = record { bytes = []; room = room; piece = piece; fails = fails; calls = 0; faults = 0 }

@@ -1,7 +1,7 @@
 -- The states of files in memory, and what one call makes of them.
 use Rattle.std.specs.Prelude.{◌≡◌, ℕ, nat_le, List, length, Option, Some, None, if◌then◌else◌}
 use Rattle.outer_io.specs.Memory.{counted, fails_next}
-use Rattle.outer_io.specs.Files.{Entry, file_in, with_file}
+use Rattle.outer_io.specs.Files.{Entry, FilesSeen, file_in, with_file}
 use Rattle.outer_io.specs.declared.files.FileRead.{FileRead}
 use Rattle.outer_io.specs.declared.files.FileRead.TheVariants as read
 use Rattle.outer_io.specs.declared.files.FileWrite.{FileWrite}
@@ -50,6 +50,10 @@ pub record MemFilesState : Type 0 where
   pub faults : ℕ
   pub misses : ℕ
   pub overlong : ℕ
+
+-- the files tell what stands under each name
+abbrev pub files_seen : MemFilesState → FilesSeen
+files_seen s = record { map = Some s.map; faults = s.faults; misses = s.misses; overlong = s.overlong }
 
 abbrev pub fresh_files : List Entry → List ℕ → MemFilesState
 fresh_files entries fails = record { map = entries; fails = fails; calls = 0; faults = 0; misses = 0; overlong = 0 }

@@ -1,7 +1,7 @@
 // A source and a sink that never fail.
-ghost use Rattle.std.specs.Prelude.{◌≡◌, ◌≢◌, ◌<◌, ◌≤◌, Some, None, IfOk, List, ℕ, length, min, drop, vec_len};
+ghost use Rattle.std.specs.Prelude.{◌≡◌, ◌≢◌, ◌<◌, ◌≤◌, IfOk, List, ℕ, length, min, drop, vec_len};
 ghost use Rattle.outer_io.specs.Outer.{Reads, Writes};
-ghost use Rattle.outer_io.specs.Calm.{calm_answer, calm_buffer};
+ghost use Rattle.outer_io.specs.Calm.{calm_source_seen, calm_sink_seen, calm_answer, calm_buffer};
 
 use crate::pieces::{copy_front, unread};
 use crate::{ReadStep, Sink, Source, WriteStep};
@@ -37,15 +37,13 @@ impl CalmSource {
 }
 
 impl Source for CalmSource {
-    ghost left = { λ s. Some s };
-
-    ghost faults = { λ _. 0 };
+    ghost seen = { calm_source_seen };
 
     /// Gives as many bytes as are left and have room in the buffer.
     #[tactic(auto, using(crate::proofs::Parts::drop_splits))]
     fn read(&mut self, buf: &mut [u8]) -> ReadStep
         requires { 0 < length buf.old }
-        ensures read { Reads (Some self.old) (Some self.new) 0 0 buf.new result }
+        ensures read { Reads (calm_source_seen self.old) (calm_source_seen self.new) buf.new result }
         ensures calm { result ≢ ReadStep.Failed }
         ensures answer { result ≡ calm_answer self.old (length buf.old) }
         ensures left { self.new ≡ drop (min (length self.old) (length buf.old)) self.old }
@@ -75,13 +73,11 @@ impl CalmSink {
 }
 
 impl Sink for CalmSink {
-    ghost written = { λ _. None };
-
-    ghost faults = { λ _. 0 };
+    ghost seen = { λ _. calm_sink_seen };
 
     fn write(&mut self, bytes: &[u8]) -> WriteStep
         requires { 0 < length bytes.now }
-        ensures write { Writes None None 0 0 bytes.now result }
+        ensures write { Writes calm_sink_seen calm_sink_seen bytes.now result }
         ensures answer { result ≡ WriteStep.Took (length bytes.now) }
     {
         WriteStep::Took(bytes.len())

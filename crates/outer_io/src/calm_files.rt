@@ -1,8 +1,8 @@
 // Files that never fail.
-ghost use Rattle.std.specs.Prelude.{◌≡◌, ◌≢◌, true, IfOk, Some};
-ghost use Rattle.outer_io.specs.Files.{have_different_names, seen, FileReads, FileWrites};
+ghost use Rattle.std.specs.Prelude.{◌≡◌, ◌≢◌, true, IfOk};
+ghost use Rattle.outer_io.specs.Files.{have_different_names, FileReads, FileWrites};
 ghost use Rattle.outer_io.specs.MemoryFiles.{IsReadAnswer, IsWriteAnswer};
-ghost use Rattle.outer_io.specs.CalmFiles.{calm_files, calm_read_answer, calm_after_read, calm_after_write};
+ghost use Rattle.outer_io.specs.CalmFiles.{calm_files_seen, calm_files, calm_read_answer, calm_after_read, calm_after_write};
 
 use crate::entries::{copy_of, write_to};
 use crate::{FileEntry, FileRead, FileWrite, Files};
@@ -44,18 +44,11 @@ impl CalmFiles {
 }
 
 impl Files for CalmFiles {
-    ghost map = { λ s. Some s.map };
-
-    ghost faults = { λ _. 0 };
-
-    ghost misses = { λ s. s.misses };
-
-    ghost overlong = { λ s. s.overlong };
+    ghost seen = { calm_files_seen };
 
     /// `NoMemory` comes only where a file of at most `limit` bytes has the name. The counts stop at the greatest u64.
     fn read(&mut self, name: &str, limit: u64) -> FileRead
-        ensures read { FileReads (seen (Some self.old.map) 0 self.old.misses self.old.overlong)
-            (seen (Some self.new.map) 0 self.new.misses self.new.overlong) name.now limit result }
+        ensures read { FileReads (calm_files_seen self.old) (calm_files_seen self.new) name.now limit result }
         ensures calm { result ≢ FileRead.Failed }
         ensures answer { IsReadAnswer (calm_read_answer self.old name.now limit) result }
         ensures state { self.new ≡ calm_after_read self.old name.now limit }
@@ -75,8 +68,7 @@ impl Files for CalmFiles {
     }
 
     fn write(&mut self, name: &str, bytes: &[u8]) -> FileWrite
-        ensures write { FileWrites (seen (Some self.old.map) 0 self.old.misses self.old.overlong)
-            (seen (Some self.new.map) 0 self.new.misses self.new.overlong) name.now bytes.now result }
+        ensures write { FileWrites (calm_files_seen self.old) (calm_files_seen self.new) name.now bytes.now result }
         ensures calm { result ≢ FileWrite.Failed }
         ensures answer { IsWriteAnswer FileWrite.Done result }
         ensures state { self.new ≡ calm_after_write self.old name.now bytes.now result }

@@ -1,7 +1,6 @@
 // What a program sees of files.
 ghost use Rattle.std.specs.Prelude.{◌≡◌, ◌≢◌, List, ℕ, Some};
-ghost use Rattle.std.specs.declared.option.Option.{Option};
-ghost use Rattle.outer_io.specs.Files.{Entry, file_in, with_file, seen, FileReads, FileWrites};
+ghost use Rattle.outer_io.specs.Files.{Entry, FilesSeen, file_in, with_file, FileReads, FileWrites};
 
 use std::marker::Model;
 
@@ -52,27 +51,17 @@ impl Model for FileEntry {
 /// No call changes whether they tell what stands under each name. No count falls, and a count that stands at the
 /// greatest u64 counts as risen.
 pub trait Files {
-    /// The files, where they are told.
-    ghost map: { Self → Option (List Entry) };
-
-    /// How often a call has failed.
-    ghost faults: { Self → ℕ };
-
-    /// How often a read has found no file of its name.
-    ghost misses: { Self → ℕ };
-
-    /// How often a read has found a file of more bytes than its limit.
-    ghost overlong: { Self → ℕ };
+    /// The files, where they are told; how often a call has failed, how often a read has found no file of its name, and
+    /// how often one has found a file of more bytes than its limit.
+    ghost seen: { Self → FilesSeen };
 
     /// Reads a file of at most `limit` bytes. No file changes.
     fn read(&mut self, name: &str, limit: u64) -> FileRead
-        ensures { FileReads (seen (map self.old) (faults self.old) (misses self.old) (overlong self.old))
-            (seen (map self.new) (faults self.new) (misses self.new) (overlong self.new)) name.now limit result };
+        ensures { FileReads (seen self.old) (seen self.new) name.now limit result };
 
     /// Gives a file these bytes in place of those that it has, and makes it where there is none.
     fn write(&mut self, name: &str, bytes: &[u8]) -> FileWrite
-        ensures { FileWrites (seen (map self.old) (faults self.old) (misses self.old) (overlong self.old))
-            (seen (map self.new) (faults self.new) (misses self.new) (overlong self.new)) name.now bytes.now result };
+        ensures { FileWrites (seen self.old) (seen self.new) name.now bytes.now result };
 }
 
 /// What a write gives a file is what stands under its name, and all other files are as they were.

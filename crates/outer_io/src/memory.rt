@@ -1,13 +1,15 @@
 // A source and a sink in memory, that give and take so many bytes a call and fail at chosen calls.
-ghost use Rattle.std.specs.Prelude.{◌≡◌, ◌<◌, ◌≤◌, Some, IfOk, length, drop, vec_len, vec_capacity};
+ghost use Rattle.std.specs.Prelude.{◌≡◌, ◌<◌, ◌≤◌, IfOk, length, drop, vec_len, vec_capacity};
 ghost use Rattle.outer_io.specs.Outer.{Reads, Writes};
 ghost use Rattle.outer_io.specs.Memory.{
   MemSourceState,
+  source_seen,
   fresh_source,
   read_answer,
   source_after_read,
   buffer_after_read,
   MemSinkState,
+  sink_seen,
   fresh_sink,
   write_answer,
   sink_after_write,
@@ -67,16 +69,14 @@ impl MemSource {
 }
 
 impl Source for MemSource {
-    ghost left = { λ s. Some s.left };
-
-    ghost faults = { λ s. s.faults };
+    ghost seen = { source_seen };
 
     /// Fails at the chosen calls and at no other. The counts of calls and of faults stop at the
     /// greatest u64.
     #[tactic(auto, using(crate::proofs::Parts::drop_splits))]
     fn read(&mut self, buf: &mut [u8]) -> ReadStep
         requires { 0 < length buf.old }
-        ensures read { Reads (Some self.old.left) (Some self.new.left) self.old.faults self.new.faults buf.new result }
+        ensures read { Reads (source_seen self.old) (source_seen self.new) buf.new result }
         ensures answer { result ≡ read_answer self.old (length buf.old) }
         ensures state { self.new ≡ source_after_read self.old (length buf.old) }
         ensures buffer { buf.new ≡ buffer_after_read self.old buf.old }
@@ -156,15 +156,13 @@ impl MemSink {
 }
 
 impl Sink for MemSink {
-    ghost written = { λ s. Some s.bytes };
-
-    ghost faults = { λ s. s.faults };
+    ghost seen = { sink_seen };
 
     /// Fails at the chosen calls and where the room is used up, and at no other call. The counts of
     /// calls and of faults stop at the greatest u64.
     fn write(&mut self, bytes: &[u8]) -> WriteStep
         requires { 0 < length bytes.now }
-        ensures write { Writes (Some self.old.bytes) (Some self.new.bytes) self.old.faults self.new.faults bytes.now result }
+        ensures write { Writes (sink_seen self.old) (sink_seen self.new) bytes.now result }
         ensures answer { result ≡ write_answer self.old (length bytes.now) }
         ensures state { self.new ≡ sink_after_write self.old bytes.now }
     {

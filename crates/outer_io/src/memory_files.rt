@@ -1,7 +1,7 @@
 // Files in memory, that fail at chosen calls.
 ghost use Rattle.std.specs.Prelude.{◌≡◌, true, IfOk, IfSome, IfNone, Some, None};
-ghost use Rattle.outer_io.specs.Files.{have_different_names, file_in, seen, FileReads, FileWrites};
-ghost use Rattle.outer_io.specs.MemoryFiles.{fresh_files, IsReadAnswer, read_answer, after_read, IsWriteAnswer, write_answer, after_write};
+ghost use Rattle.outer_io.specs.Files.{have_different_names, file_in, FileReads, FileWrites};
+ghost use Rattle.outer_io.specs.MemoryFiles.{files_seen, fresh_files, IsReadAnswer, read_answer, after_read, IsWriteAnswer, write_answer, after_write};
 
 use crate::entries::{bytes_of, copy_of, write_to};
 use crate::{FileEntry, FileRead, FileWrite, Files};
@@ -69,19 +69,12 @@ impl MemFiles {
 }
 
 impl Files for MemFiles {
-    ghost map = { λ s. Some s.map };
-
-    ghost faults = { λ s. s.faults };
-
-    ghost misses = { λ s. s.misses };
-
-    ghost overlong = { λ s. s.overlong };
+    ghost seen = { files_seen };
 
     /// Fails at the chosen calls and at no other. `NoMemory` comes only where a file of at most `limit` bytes has the name.
     /// All counts stop at the greatest u64.
     fn read(&mut self, name: &str, limit: u64) -> FileRead
-        ensures read { FileReads (seen (Some self.old.map) self.old.faults self.old.misses self.old.overlong)
-            (seen (Some self.new.map) self.new.faults self.new.misses self.new.overlong) name.now limit result }
+        ensures read { FileReads (files_seen self.old) (files_seen self.new) name.now limit result }
         ensures answer { IsReadAnswer (read_answer self.old name.now limit) result }
         ensures state { self.new ≡ after_read self.old name.now limit }
     {
@@ -106,8 +99,7 @@ impl Files for MemFiles {
 
     /// Fails at the chosen calls and at no other, and then changes no file.
     fn write(&mut self, name: &str, bytes: &[u8]) -> FileWrite
-        ensures write { FileWrites (seen (Some self.old.map) self.old.faults self.old.misses self.old.overlong)
-            (seen (Some self.new.map) self.new.faults self.new.misses self.new.overlong) name.now bytes.now result }
+        ensures write { FileWrites (files_seen self.old) (files_seen self.new) name.now bytes.now result }
         ensures answer { IsWriteAnswer (write_answer self.old) result }
         ensures state { self.new ≡ after_write self.old name.now bytes.now result }
     {

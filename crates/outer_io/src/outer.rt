@@ -1,7 +1,6 @@
 // What a program sees of its input and its output.
-ghost use Rattle.std.specs.Prelude.{◌<◌, List, ℕ, length};
-ghost use Rattle.std.specs.declared.option.Option.{Option};
-ghost use Rattle.outer_io.specs.Outer.{Reads, Writes};
+ghost use Rattle.std.specs.Prelude.{◌<◌, length};
+ghost use Rattle.outer_io.specs.Outer.{SourceSeen, Reads, SinkSeen, Writes};
 
 /// What a read came to.
 #[derive(Clone, Copy, Debug, PartialEq, Eq)]
@@ -27,34 +26,28 @@ pub enum WriteStep {
 ///
 /// No call changes whether a source tells what is left.
 pub trait Source {
-    /// The bytes that are left, where the source tells them.
-    ghost left: { Self → Option (List ℕ) };
-
-    /// How often a read has failed. The count never falls, and a count that stands at the greatest
-    /// u64 counts as risen.
-    ghost faults: { Self → ℕ };
+    /// The bytes that are left, where the source tells them, and how often a read has failed. The
+    /// count never falls, and a count that stands at the greatest u64 counts as risen.
+    ghost seen: { Self → SourceSeen };
 
     /// Reads up to as many bytes as the buffer has, and fewer wherever the source likes.
     ///
     /// What stands in the buffer behind the bytes that came is not said.
     fn read(&mut self, buf: &mut [u8]) -> ReadStep
         requires { 0 < length buf.old }
-        ensures { Reads (left self.old) (left self.new) (faults self.old) (faults self.new) buf.new result };
+        ensures { Reads (seen self.old) (seen self.new) buf.new result };
 }
 
 /// Bytes that are written in pieces of any size.
 ///
 /// No call changes whether a sink tells what was written.
 pub trait Sink {
-    /// The bytes that were written, where the sink tells them.
-    ghost written: { Self → Option (List ℕ) };
-
-    /// How often a write has failed. The count never falls, and a count that stands at the greatest
-    /// u64 counts as risen.
-    ghost faults: { Self → ℕ };
+    /// The bytes that were written, where the sink tells them, and how often a write has failed. The
+    /// count never falls, and a count that stands at the greatest u64 counts as risen.
+    ghost seen: { Self → SinkSeen };
 
     /// Writes the first bytes of those that are offered, one at least, or fails.
     fn write(&mut self, bytes: &[u8]) -> WriteStep
         requires { 0 < length bytes.now }
-        ensures { Writes (written self.old) (written self.new) (faults self.old) (faults self.new) bytes.now result };
+        ensures { Writes (seen self.old) (seen self.new) bytes.now result };
 }

@@ -8,7 +8,7 @@ ghost use Rattle.query_terms.specs.declared.tree.Clause.TheVariants as bindings;
 ghost use Rattle.query_clauses.specs.Parts.{as_maybe_variable};
 
 use query_terms::{Clause, Expr, Nest, Stop};
-use query_tokens::{Descent, Source, WrittenVariable, tried};
+use query_tokens::{Descent, QuerySource, WrittenVariable, tried};
 use sqlite_items::{Boxed, Items};
 use std::alloc::Global;
 use tree_model::NoMemory;
@@ -20,7 +20,7 @@ pub struct ClauseReader<'a, F> {
 }
 
 #[tactic(auto, unfolding(query_terms::specs::Grammar::position_variable))]
-fn position<'a>(source: &Source<'a>, rest: &'a str) -> Option<(WrittenVariable<'a>, &'a str)>
+fn position<'a>(source: &QuerySource<'a>, rest: &'a str) -> Option<(WrittenVariable<'a>, &'a str)>
     ensures { Reads as_variable (at source.now spec.position_variable rest.now) result }
 {
     let after = source.blanks(rest);
@@ -28,7 +28,10 @@ fn position<'a>(source: &Source<'a>, rest: &'a str) -> Option<(WrittenVariable<'
     source.variable(after)
 }
 
-fn maybe_position<'a>(source: &Source<'a>, rest: &'a str) -> (Option<WrittenVariable<'a>>, &'a str)
+fn maybe_position<'a>(
+    source: &QuerySource<'a>,
+    rest: &'a str,
+) -> (Option<WrittenVariable<'a>>, &'a str)
     ensures { at source.now (opt spec.position_variable) rest.now ≡ Ok (as_maybe_variable result.0, result.1.now) }
 {
     match position(source, rest) {
@@ -72,7 +75,7 @@ pub(crate) fn with_others(
 
 impl<
     'a,
-    F: Fn(Global, Source<'a>, Nest, &'a str) -> Result<(Boxed<Expr>, &'a str), Stop>,
+    F: Fn(Global, QuerySource<'a>, Nest, &'a str) -> Result<(Boxed<Expr>, &'a str), Stop>,
 > ClauseReader<'a, F> {
     #[tactic(auto, unfolding(query_terms::specs::Grammar::bound_items))]
     pub(crate) fn bound_items(&self, rest: &'a str) -> Result<(Boxed<Expr>, &'a str), Stop>

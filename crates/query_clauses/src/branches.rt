@@ -8,7 +8,7 @@ ghost use Rattle.query_clauses.specs.Parts.{as_branches};
 
 use crate::bindings::ClauseReader;
 use query_terms::{Expr, Nest, Stop};
-use query_tokens::Source;
+use query_tokens::QuerySource;
 use sqlite_items::Boxed;
 use std::alloc::Global;
 
@@ -21,7 +21,7 @@ pub(crate) struct Branches {
 
 impl<
     'a,
-    F: Fn(Global, Source<'a>, Nest, &'a str) -> Result<(Boxed<Expr>, &'a str), Stop>,
+    F: Fn(Global, QuerySource<'a>, Nest, &'a str) -> Result<(Boxed<Expr>, &'a str), Stop>,
 > ClauseReader<'a, F> {
     #[tactic(auto, unfolding(query_terms::specs::Grammar::condition))]
     fn condition(&self, rest: &'a str) -> Result<(Boxed<Expr>, &'a str), Stop>

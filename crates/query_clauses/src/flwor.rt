@@ -8,13 +8,13 @@ ghost use Rattle.query_clauses.specs.Parts.{as_maybe_term};
 
 use crate::bindings::ClauseReader;
 use query_terms::{Expr, Nest, Stop};
-use query_tokens::{Source, tried};
+use query_tokens::{QuerySource, tried};
 use sqlite_items::{Boxed, Items};
 use std::alloc::Global;
 
 impl<
     'a,
-    F: Fn(Global, Source<'a>, Nest, &'a str) -> Result<(Boxed<Expr>, &'a str), Stop>,
+    F: Fn(Global, QuerySource<'a>, Nest, &'a str) -> Result<(Boxed<Expr>, &'a str), Stop>,
 > ClauseReader<'a, F> {
     #[tactic(auto, unfolding(query_terms::specs::Grammar::where_clause))]
     fn where_clause(&self, rest: &'a str) -> Result<(Boxed<Expr>, &'a str), Stop>

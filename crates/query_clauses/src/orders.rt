@@ -9,13 +9,13 @@ ghost use Rattle.query_clauses.specs.Parts.{as_maybe_flag, as_maybe_keys};
 
 use crate::bindings::ClauseReader;
 use query_terms::{Expr, Nest, OrderKey, Stop};
-use query_tokens::{Source, tried};
+use query_tokens::{QuerySource, tried};
 use sqlite_items::{Boxed, Items};
 use std::alloc::Global;
 use tree_model::NoMemory;
 
 // Whether it is `descending`.
-fn direction_word<'a>(source: &Source<'a>, rest: &'a str) -> Option<(bool, &'a str)>
+fn direction_word<'a>(source: &QuerySource<'a>, rest: &'a str) -> Option<(bool, &'a str)>
     ensures { Reads flag (at source.now (alt (giving (flag false) (keyword (codes "ascending"))) (giving (flag true) (keyword (codes "descending")))) rest.now) result }
 {
     if let Some(after) = source.keyword(rest, "ascending") {
@@ -26,7 +26,7 @@ fn direction_word<'a>(source: &Source<'a>, rest: &'a str) -> Option<(bool, &'a s
 }
 
 #[tactic(auto, unfolding(query_terms::specs::Grammar::direction))]
-fn direction<'a>(source: &Source<'a>, rest: &'a str) -> Option<(bool, &'a str)>
+fn direction<'a>(source: &QuerySource<'a>, rest: &'a str) -> Option<(bool, &'a str)>
     ensures { Reads flag (at source.now spec.direction rest.now) result }
 {
     let after = source.blanks(rest);
@@ -34,7 +34,7 @@ fn direction<'a>(source: &Source<'a>, rest: &'a str) -> Option<(bool, &'a str)>
 }
 
 // Whether it is `greatest`.
-fn empty_word<'a>(source: &Source<'a>, rest: &'a str) -> Option<(bool, &'a str)>
+fn empty_word<'a>(source: &QuerySource<'a>, rest: &'a str) -> Option<(bool, &'a str)>
     ensures { Reads flag (at source.now (alt (giving (flag true) (keyword (codes "greatest"))) (giving (flag false) (keyword (codes "least")))) rest.now) result }
 {
     if let Some(after) = source.keyword(rest, "greatest") {
@@ -45,7 +45,7 @@ fn empty_word<'a>(source: &Source<'a>, rest: &'a str) -> Option<(bool, &'a str)>
 }
 
 #[tactic(auto, unfolding(query_terms::specs::Grammar::empty_order))]
-fn empty_order<'a>(source: &Source<'a>, rest: &'a str) -> Option<(bool, &'a str)>
+fn empty_order<'a>(source: &QuerySource<'a>, rest: &'a str) -> Option<(bool, &'a str)>
     ensures { Reads flag (at source.now spec.empty_order rest.now) result }
 {
     let after = source.blanks(rest);
@@ -53,7 +53,7 @@ fn empty_order<'a>(source: &Source<'a>, rest: &'a str) -> Option<(bool, &'a str)
     empty_word(source, after)
 }
 
-fn maybe_direction<'a>(source: &Source<'a>, rest: &'a str) -> (Option<bool>, &'a str)
+fn maybe_direction<'a>(source: &QuerySource<'a>, rest: &'a str) -> (Option<bool>, &'a str)
     ensures { at source.now (opt spec.direction) rest.now ≡ Ok (as_maybe_flag result.0, result.1.now) }
 {
     match direction(source, rest) {
@@ -62,7 +62,7 @@ fn maybe_direction<'a>(source: &Source<'a>, rest: &'a str) -> (Option<bool>, &'a
     }
 }
 
-fn maybe_empty_order<'a>(source: &Source<'a>, rest: &'a str) -> (Option<bool>, &'a str)
+fn maybe_empty_order<'a>(source: &QuerySource<'a>, rest: &'a str) -> (Option<bool>, &'a str)
     ensures { at source.now (opt spec.empty_order) rest.now ≡ Ok (as_maybe_flag result.0, result.1.now) }
 {
     match empty_order(source, rest) {
@@ -72,7 +72,7 @@ fn maybe_empty_order<'a>(source: &Source<'a>, rest: &'a str) -> (Option<bool>, &
 }
 
 #[tactic(auto, unfolding(query_terms::specs::Grammar::stable))]
-fn stable<'a>(source: &Source<'a>, rest: &'a str) -> &'a str
+fn stable<'a>(source: &QuerySource<'a>, rest: &'a str) -> &'a str
     ensures { at source.now spec.stable rest.now ≡ Ok (nothing, result.now) }
 {
     match source.keyword(rest, "stable") {
@@ -105,7 +105,7 @@ fn with_others(
 
 impl<
     'a,
-    F: Fn(Global, Source<'a>, Nest, &'a str) -> Result<(Boxed<Expr>, &'a str), Stop>,
+    F: Fn(Global, QuerySource<'a>, Nest, &'a str) -> Result<(Boxed<Expr>, &'a str), Stop>,
 > ClauseReader<'a, F> {
     #[tactic(auto, unfolding(query_terms::specs::Grammar::order_key))]
     fn order_key(&self, rest: &'a str) -> Result<(OrderKey, &'a str), Stop>

@@ -8,10 +8,10 @@ ghost use Rattle.query_tokens.specs.Reads.{at, Passes, Reads};
 ghost use Rattle.query_clauses.specs.Parts.{as_maybe_place};
 
 use query_terms::Place;
-use query_tokens::Source;
+use query_tokens::QuerySource;
 
 #[tactic(auto, unfolding(query_terms::specs::Grammar::nodes_word))]
-pub(crate) fn nodes_word<'a>(source: &Source<'a>, rest: &'a str) -> Option<&'a str>
+pub(crate) fn nodes_word<'a>(source: &QuerySource<'a>, rest: &'a str) -> Option<&'a str>
     ensures { Passes (at source.now spec.nodes_word rest.now) result }
 {
     if let Some(after) = source.keyword(rest, "nodes") {
@@ -20,7 +20,7 @@ pub(crate) fn nodes_word<'a>(source: &Source<'a>, rest: &'a str) -> Option<&'a s
     source.keyword(rest, "node")
 }
 
-fn end_word<'a>(source: &Source<'a>, rest: &'a str) -> Option<(Place, &'a str)>
+fn end_word<'a>(source: &QuerySource<'a>, rest: &'a str) -> Option<(Place, &'a str)>
     ensures { Reads place (at source.now (alt (giving (place places.AsFirst) (keyword (codes "first"))) (giving (place places.AsLast) (keyword (codes "last")))) rest.now) result }
 {
     if let Some(after) = source.keyword(rest, "first") {
@@ -31,14 +31,14 @@ fn end_word<'a>(source: &Source<'a>, rest: &'a str) -> Option<(Place, &'a str)>
 }
 
 #[tactic(auto, unfolding(query_terms::specs::Grammar::end_of_target))]
-fn end_of_target<'a>(source: &Source<'a>, rest: &'a str) -> Option<(Place, &'a str)>
+fn end_of_target<'a>(source: &QuerySource<'a>, rest: &'a str) -> Option<(Place, &'a str)>
     ensures { Reads place (at source.now spec.end_of_target rest.now) result }
 {
     let after = source.keyword(rest, "as")?;
     end_word(source, after)
 }
 
-fn maybe_end_of_target<'a>(source: &Source<'a>, rest: &'a str) -> (Option<Place>, &'a str)
+fn maybe_end_of_target<'a>(source: &QuerySource<'a>, rest: &'a str) -> (Option<Place>, &'a str)
     ensures { at source.now (opt spec.end_of_target) rest.now ≡ Ok (as_maybe_place result.0, result.1.now) }
 {
     match end_of_target(source, rest) {
@@ -57,7 +57,7 @@ fn place_or_into(found: Option<Place>) -> Place
 }
 
 #[tactic(auto, unfolding(query_terms::specs::Grammar::into_place))]
-fn into_place<'a>(source: &Source<'a>, rest: &'a str) -> Option<(Place, &'a str)>
+fn into_place<'a>(source: &QuerySource<'a>, rest: &'a str) -> Option<(Place, &'a str)>
     ensures { Reads place (at source.now spec.into_place rest.now) result }
 {
     let (found, after) = maybe_end_of_target(source, rest);
@@ -66,7 +66,7 @@ fn into_place<'a>(source: &Source<'a>, rest: &'a str) -> Option<(Place, &'a str)
 }
 
 #[tactic(auto, unfolding(query_terms::specs::Grammar::place_rule))]
-fn place<'a>(source: &Source<'a>, rest: &'a str) -> Option<(Place, &'a str)>
+fn place<'a>(source: &QuerySource<'a>, rest: &'a str) -> Option<(Place, &'a str)>
     ensures { Reads place (at source.now spec.place_rule rest.now) result }
 {
     if let Some(found) = into_place(source, rest) {
@@ -80,7 +80,10 @@ fn place<'a>(source: &Source<'a>, rest: &'a str) -> Option<(Place, &'a str)>
 }
 
 #[tactic(auto, unfolding(query_terms::specs::Grammar::insertion_place))]
-pub(crate) fn insertion_place<'a>(source: &Source<'a>, rest: &'a str) -> Option<(Place, &'a str)>
+pub(crate) fn insertion_place<'a>(
+    source: &QuerySource<'a>,
+    rest: &'a str,
+) -> Option<(Place, &'a str)>
     ensures { Reads place (at source.now spec.insertion_place rest.now) result }
 {
     let after = source.blanks(rest);

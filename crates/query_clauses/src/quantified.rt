@@ -7,12 +7,12 @@ ghost use Rattle.query_tokens.specs.Descends.{Nests, Opens, Gathers};
 
 use crate::bindings::{ClauseReader, with_others};
 use query_terms::{Clause, Expr, Nest, Quantifier, Stop};
-use query_tokens::Source;
+use query_tokens::QuerySource;
 use sqlite_items::{Boxed, Items};
 use std::alloc::Global;
 
 #[tactic(auto, unfolding(query_terms::specs::Grammar::quantifier_rule))]
-fn quantifier<'a>(source: &Source<'a>, rest: &'a str) -> Option<(Quantifier, &'a str)>
+fn quantifier<'a>(source: &QuerySource<'a>, rest: &'a str) -> Option<(Quantifier, &'a str)>
     ensures { Reads quantifier (at source.now spec.quantifier_rule rest.now) result }
 {
     if let Some(after) = source.keyword(rest, "some") {
@@ -24,7 +24,7 @@ fn quantifier<'a>(source: &Source<'a>, rest: &'a str) -> Option<(Quantifier, &'a
 
 impl<
     'a,
-    F: Fn(Global, Source<'a>, Nest, &'a str) -> Result<(Boxed<Expr>, &'a str), Stop>,
+    F: Fn(Global, QuerySource<'a>, Nest, &'a str) -> Result<(Boxed<Expr>, &'a str), Stop>,
 > ClauseReader<'a, F> {
     #[tactic(auto, unfolding(query_terms::specs::Grammar::quantified_variable))]
     fn quantified_variable(&self, rest: &'a str) -> Result<(Clause, &'a str), Stop>

@@ -10,13 +10,13 @@ use crate::bindings::ClauseReader;
 use crate::orders::is_set;
 use crate::places::{insertion_place, nodes_word};
 use query_terms::{Expr, Nest, Scope, Stop};
-use query_tokens::Source;
+use query_tokens::QuerySource;
 use sqlite_items::{Boxed, Items};
 use std::alloc::Global;
 
 // `value of`.
 #[tactic(auto, unfolding(query_terms::specs::Grammar::value_of))]
-fn value_of<'a>(source: &Source<'a>, rest: &'a str) -> Option<(bool, &'a str)>
+fn value_of<'a>(source: &QuerySource<'a>, rest: &'a str) -> Option<(bool, &'a str)>
     ensures { Reads flag (at source.now spec.value_of rest.now) result }
 {
     let after = source.keyword(rest, "value")?;
@@ -24,7 +24,7 @@ fn value_of<'a>(source: &Source<'a>, rest: &'a str) -> Option<(bool, &'a str)>
     Some((true, after))
 }
 
-fn maybe_value_of<'a>(source: &Source<'a>, rest: &'a str) -> (Option<bool>, &'a str)
+fn maybe_value_of<'a>(source: &QuerySource<'a>, rest: &'a str) -> (Option<bool>, &'a str)
     ensures { at source.now (opt spec.value_of) rest.now ≡ Ok (as_maybe_flag result.0, result.1.now) }
 {
     match value_of(source, rest) {
@@ -35,7 +35,7 @@ fn maybe_value_of<'a>(source: &Source<'a>, rest: &'a str) -> (Option<bool>, &'a 
 
 impl<
     'a,
-    F: Fn(Global, Source<'a>, Nest, &'a str) -> Result<(Boxed<Expr>, &'a str), Stop>,
+    F: Fn(Global, QuerySource<'a>, Nest, &'a str) -> Result<(Boxed<Expr>, &'a str), Stop>,
 > ClauseReader<'a, F> {
     /// An insertion (section 2.4.1).
     #[tactic(auto, unfolding(query_terms::specs::Grammar::insert))]

@@ -9,7 +9,7 @@ ghost use Rattle.query_constructors.specs.Runs.{as_maybe_attribute};
 use crate::markup::Markup;
 use crate::quoted::Quoted;
 use query_terms::{Attribute, Expr, Nest, Stop};
-use query_tokens::{Source, tried};
+use query_tokens::{QuerySource, tried};
 use sqlite_items::{Boxed, Items};
 use std::alloc::Global;
 use tree_model::NoMemory;
@@ -23,10 +23,10 @@ fn push_present(found: &mut Items<Attribute>, item: Option<Attribute>) -> Result
     }
 }
 
-impl<'a, F: Fn(Global, Source<'a>, Nest, &'a str) -> Result<(Boxed<Expr>, &'a str), Stop>> Markup<
+impl<
     'a,
-    F,
-> {
+    F: Fn(Global, QuerySource<'a>, Nest, &'a str) -> Result<(Boxed<Expr>, &'a str), Stop>,
+> Markup<'a, F> {
     #[tactic(auto, unfolding(query_terms::specs::Markup::equal_sign))]
     fn equal_sign(&self, rest: &'a str) -> Result<&'a str, Stop>
         ensures { Skips (at self.now.descent.source spec.equal_sign rest.now) result }

@@ -11,7 +11,7 @@ ghost use Rattle.query_constructors.specs.Runs.{as_maybe_text, as_section};
 
 use crate::markup::Markup;
 use query_terms::{Expr, Nest, Stop};
-use query_tokens::{Source, tried};
+use query_tokens::{QuerySource, tried};
 use sqlite_items::Boxed;
 use std::alloc::Global;
 use tree_model::Text;
@@ -22,10 +22,10 @@ fn is_xml(target: &str) -> bool
     target.eq_ignore_ascii_case("xml")
 }
 
-impl<'a, F: Fn(Global, Source<'a>, Nest, &'a str) -> Result<(Boxed<Expr>, &'a str), Stop>> Markup<
+impl<
     'a,
-    F,
-> {
+    F: Fn(Global, QuerySource<'a>, Nest, &'a str) -> Result<(Boxed<Expr>, &'a str), Stop>,
+> Markup<'a, F> {
     #[tactic(auto, unfolding(query_terms::specs::Markup::direct_comment))]
     pub(crate) fn direct_comment(&self, rest: &'a str) -> Result<(Boxed<Expr>, &'a str), Stop>
         ensures { Opens term (at self.now.descent.source spec.direct_comment rest.now) result }

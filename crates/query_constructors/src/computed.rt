@@ -8,7 +8,7 @@ ghost use Rattle.query_constructors.specs.Runs.{as_maybe_term, as_computed_name}
 
 use crate::markup::Markup;
 use query_terms::{ComputedKind, Expr, Nest, Scope, Span, Stop, UnnamedKind};
-use query_tokens::{Source, WrittenName, tried};
+use query_tokens::{QuerySource, WrittenName, tried};
 use sqlite_items::{Boxed, Items};
 use std::alloc::Global;
 use tree_model::NoMemory;
@@ -60,10 +60,10 @@ fn computed_term(
     }
 }
 
-impl<'a, F: Fn(Global, Source<'a>, Nest, &'a str) -> Result<(Boxed<Expr>, &'a str), Stop>> Markup<
+impl<
     'a,
-    F,
-> {
+    F: Fn(Global, QuerySource<'a>, Nest, &'a str) -> Result<(Boxed<Expr>, &'a str), Stop>,
+> Markup<'a, F> {
     #[tactic(auto, unfolding(query_terms::specs::Markup::named_kind))]
     fn named_kind(&self, rest: &'a str) -> Option<(ComputedKind, &'a str)>
         ensures { Reads computed_kind (at self.now.descent.source spec.named_kind rest.now) result }

@@ -9,14 +9,14 @@ ghost use Rattle.query_constructors.specs.Runs.{as_piece, Piles};
 use crate::markup::Markup;
 use crate::run::{Piece, Run};
 use query_terms::{Content, Expr, Nest, Stop};
-use query_tokens::{Source, tried};
+use query_tokens::{QuerySource, tried};
 use sqlite_items::{Boxed, Items};
 use std::alloc::Global;
 
-impl<'a, F: Fn(Global, Source<'a>, Nest, &'a str) -> Result<(Boxed<Expr>, &'a str), Stop>> Markup<
+impl<
     'a,
-    F,
-> {
+    F: Fn(Global, QuerySource<'a>, Nest, &'a str) -> Result<(Boxed<Expr>, &'a str), Stop>,
+> Markup<'a, F> {
     #[tactic(auto, unfolding(query_terms::specs::Markup::content_piece, query_terms::specs::Markup::direct_content, query_terms::specs::Markup::enclosed_content, query_terms::specs::Markup::plain_content))]
     fn content_piece(&self, rest: &'a str) -> Result<(Piece, &'a str), Stop>
         requires { Nests self.now.descent.source (F.pre self.now.descent.nested) (F.post self.now.descent.nested) }

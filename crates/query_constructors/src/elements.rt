@@ -9,7 +9,7 @@ ghost use Rattle.query_constructors.specs.Runs.{as_inside};
 
 use crate::markup::Markup;
 use query_terms::{Content, Expr, Nest, Stop};
-use query_tokens::{Source, WrittenName, tried};
+use query_tokens::{QuerySource, WrittenName, tried};
 use sqlite_items::{Boxed, Items};
 use std::alloc::Global;
 
@@ -26,10 +26,10 @@ fn is_written_alike(start: &WrittenName<'_>, end: &WrittenName<'_>) -> bool
     start.prefix == end.prefix && start.local == end.local
 }
 
-impl<'a, F: Fn(Global, Source<'a>, Nest, &'a str) -> Result<(Boxed<Expr>, &'a str), Stop>> Markup<
+impl<
     'a,
-    F,
-> {
+    F: Fn(Global, QuerySource<'a>, Nest, &'a str) -> Result<(Boxed<Expr>, &'a str), Stop>,
+> Markup<'a, F> {
     #[tactic(auto, unfolding(query_terms::specs::Markup::end_tag))]
     fn end_tag(&self, rest: &'a str) -> Option<(WrittenName<'a>, &'a str)>
         ensures { Reads as_name (at self.now.descent.source spec.end_tag rest.now) result }

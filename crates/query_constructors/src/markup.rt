@@ -6,7 +6,7 @@ ghost use Rattle.query_tokens.specs.Reads.{at};
 ghost use Rattle.query_tokens.specs.Descends.{Nests, Opens};
 
 use query_terms::{Expr, Nest, Stop};
-use query_tokens::{Descent, Source, tried};
+use query_tokens::{Descent, QuerySource, tried};
 use sqlite_items::Boxed;
 use std::alloc::Global;
 
@@ -16,10 +16,10 @@ pub struct Markup<'a, F> {
     pub descent: Descent<'a, F>,
 }
 
-impl<'a, F: Fn(Global, Source<'a>, Nest, &'a str) -> Result<(Boxed<Expr>, &'a str), Stop>> Markup<
+impl<
     'a,
-    F,
-> {
+    F: Fn(Global, QuerySource<'a>, Nest, &'a str) -> Result<(Boxed<Expr>, &'a str), Stop>,
+> Markup<'a, F> {
     /// A direct constructor: an element, a comment or a processing instruction (XQuery 1.0, section 3.7.1).
     #[tactic(auto, unfolding(query_terms::specs::Markup::direct))]
     pub fn direct(&self, rest: &'a str) -> Result<(Boxed<Expr>, &'a str), Stop>

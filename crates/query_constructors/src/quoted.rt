@@ -12,7 +12,7 @@ use crate::markup::Markup;
 use crate::run::{Piece, Run};
 use constructor_search::holds_constructor;
 use query_terms::{Content, Expr, Nest, Stop};
-use query_tokens::{Quote, Source, front, tried};
+use query_tokens::{QuerySource, Quote, front, tried};
 use sqlite_items::{Boxed, Items};
 use std::alloc::Global;
 use tree_model::{NoMemory, Text};
@@ -66,10 +66,10 @@ fn written(alloc: Global, parts: &[Content], between: &str) -> Result<Option<Tex
     }
 }
 
-impl<'a, F: Fn(Global, Source<'a>, Nest, &'a str) -> Result<(Boxed<Expr>, &'a str), Stop>> Markup<
+impl<
     'a,
-    F,
-> {
+    F: Fn(Global, QuerySource<'a>, Nest, &'a str) -> Result<(Boxed<Expr>, &'a str), Stop>,
+> Markup<'a, F> {
     #[tactic(auto, unfolding(query_terms::specs::Markup::quoted_piece, query_terms::specs::Markup::enclosed_content))]
     fn quoted_piece(&self, rest: &'a str, quote: Quote) -> Result<(Piece, &'a str), Stop>
         requires { Nests self.now.descent.source (F.pre self.now.descent.nested) (F.post self.now.descent.nested) }

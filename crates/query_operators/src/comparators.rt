@@ -5,10 +5,10 @@ ghost use Rattle.query_terms.specs.Grammar as spec;
 ghost use Rattle.query_tokens.specs.Reads.{at, Reads};
 
 use query_terms::Comparator;
-use query_tokens::Source;
+use query_tokens::QuerySource;
 
 #[tactic(auto, unfolding(query_terms::specs::Grammar::general_comparator))]
-fn general_comparator<'a>(source: &Source<'a>, rest: &'a str) -> Option<(Comparator, &'a str)>
+fn general_comparator<'a>(source: &QuerySource<'a>, rest: &'a str) -> Option<(Comparator, &'a str)>
     ensures { Reads comparator (at source.now spec.general_comparator rest.now) result }
 {
     if let Some(after) = source.word(rest, "!=") {
@@ -37,7 +37,7 @@ fn general_comparator<'a>(source: &Source<'a>, rest: &'a str) -> Option<(Compara
 }
 
 #[tactic(auto, unfolding(query_terms::specs::Grammar::value_comparator))]
-fn value_comparator<'a>(source: &Source<'a>, rest: &'a str) -> Option<(Comparator, &'a str)>
+fn value_comparator<'a>(source: &QuerySource<'a>, rest: &'a str) -> Option<(Comparator, &'a str)>
     ensures { Reads comparator (at source.now spec.value_comparator rest.now) result }
 {
     if let Some(after) = source.keyword(rest, "eq") {
@@ -63,7 +63,10 @@ fn value_comparator<'a>(source: &Source<'a>, rest: &'a str) -> Option<(Comparato
 }
 
 #[tactic(auto, unfolding(query_terms::specs::Grammar::comparator_rule))]
-pub(crate) fn comparator<'a>(source: &Source<'a>, rest: &'a str) -> Option<(Comparator, &'a str)>
+pub(crate) fn comparator<'a>(
+    source: &QuerySource<'a>,
+    rest: &'a str,
+) -> Option<(Comparator, &'a str)>
     ensures { Reads comparator (at source.now spec.comparator_rule rest.now) result }
 {
     if let Some(found) = general_comparator(source, rest) {

@@ -9,7 +9,7 @@ ghost use Rattle.query_operators.specs.Parts.{as_maybe_term, as_compared, as_may
 use crate::comparators::comparator;
 use crate::operators::OperatorReader;
 use query_terms::{Comparator, Expr, Nest, Span, Stop};
-use query_tokens::{Source, tried};
+use query_tokens::{QuerySource, tried};
 use sqlite_items::Boxed;
 use std::alloc::Global;
 use tree_model::NoMemory;
@@ -60,7 +60,7 @@ fn comparison_term(
 
 impl<
     'a,
-    F: Fn(Global, Source<'a>, Nest, &'a str) -> Result<(Boxed<Expr>, &'a str), Stop>,
+    F: Fn(Global, QuerySource<'a>, Nest, &'a str) -> Result<(Boxed<Expr>, &'a str), Stop>,
 > OperatorReader<'a, F> {
     #[tactic(auto, unfolding(query_terms::specs::Grammar::range_end))]
     fn range_end(&self, rest: &'a str) -> Result<(Boxed<Expr>, &'a str), Stop>

@@ -8,7 +8,7 @@ ghost use Rattle.query_tokens.specs.Descends.{Nests, Opens, Gathers};
 
 use crate::operators::OperatorReader;
 use query_terms::{Expr, Nest, Span, Stop};
-use query_tokens::Source;
+use query_tokens::QuerySource;
 use sqlite_items::{Boxed, Items};
 use std::alloc::Global;
 use tree_model::NoMemory;
@@ -55,7 +55,7 @@ fn or_term(
 
 impl<
     'a,
-    F: Fn(Global, Source<'a>, Nest, &'a str) -> Result<(Boxed<Expr>, &'a str), Stop>,
+    F: Fn(Global, QuerySource<'a>, Nest, &'a str) -> Result<(Boxed<Expr>, &'a str), Stop>,
 > OperatorReader<'a, F> {
     #[tactic(auto, unfolding(query_terms::specs::Grammar::next_comparison))]
     fn next_comparison(&self, rest: &'a str) -> Result<(Boxed<Expr>, &'a str), Stop>

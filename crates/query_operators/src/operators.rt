@@ -9,7 +9,7 @@ ghost use Rattle.query_tokens.specs.Descends.{Nests, Opens, Gathers};
 use crate::symbols::{set_operator, union_operator};
 use query_steps::PathReader;
 use query_terms::{Expr, Nest, Operand, Span, Stop};
-use query_tokens::Source;
+use query_tokens::QuerySource;
 use sqlite_items::{Boxed, Items};
 use std::alloc::Global;
 use tree_model::NoMemory;
@@ -62,7 +62,7 @@ fn union_term(
 
 impl<
     'a,
-    F: Fn(Global, Source<'a>, Nest, &'a str) -> Result<(Boxed<Expr>, &'a str), Stop>,
+    F: Fn(Global, QuerySource<'a>, Nest, &'a str) -> Result<(Boxed<Expr>, &'a str), Stop>,
 > OperatorReader<'a, F> {
     #[tactic(auto, unfolding(query_terms::specs::Grammar::next_unary))]
     fn next_unary(&self, rest: &'a str) -> Result<(Operand, &'a str), Stop>

@@ -9,13 +9,13 @@ ghost use Rattle.std.specs.Prelude.{codes, true, false};
 
 use crate::operators::OperatorReader;
 use query_terms::{Expr, Nest, Span, Stop};
-use query_tokens::Source;
+use query_tokens::QuerySource;
 use sqlite_items::Boxed;
 use std::alloc::Global;
 use tree_model::NoMemory;
 
 // Whether a sign is a minus.
-fn bare_sign<'a>(source: &Source<'a>, rest: &'a str) -> Option<(bool, &'a str)>
+fn bare_sign<'a>(source: &QuerySource<'a>, rest: &'a str) -> Option<(bool, &'a str)>
     ensures { Reads flag (at source.now (alt (giving (flag false) (word (codes "+"))) (giving (flag true) (word (codes "-")))) rest.now) result }
 {
     if let Some(after) = source.word(rest, "+") {
@@ -26,7 +26,7 @@ fn bare_sign<'a>(source: &Source<'a>, rest: &'a str) -> Option<(bool, &'a str)>
 }
 
 #[tactic(auto, unfolding(query_terms::specs::Grammar::sign))]
-fn sign<'a>(source: &Source<'a>, rest: &'a str) -> Option<(bool, &'a str)>
+fn sign<'a>(source: &QuerySource<'a>, rest: &'a str) -> Option<(bool, &'a str)>
     ensures { Reads flag (at source.now spec.sign rest.now) result }
 {
     let (is_minus, after) = bare_sign(source, rest)?;
@@ -44,7 +44,7 @@ fn turned(earlier: Option<bool>, is_minus: bool) -> bool
 }
 
 // All signs: whether an odd number is minus, where there is a sign.
-fn signs<'a>(source: &Source<'a>, rest: &'a str) -> (Option<bool>, &'a str)
+fn signs<'a>(source: &QuerySource<'a>, rest: &'a str) -> (Option<bool>, &'a str)
     ensures { (v : Value) × (at source.now (many spec.sign) rest.now ≡ Ok (list v, result.1.now)) × (spec.signs_in v ≡ result.0) }
 {
     let mut found = None;
@@ -82,7 +82,7 @@ fn signed(
 
 impl<
     'a,
-    F: Fn(Global, Source<'a>, Nest, &'a str) -> Result<(Boxed<Expr>, &'a str), Stop>,
+    F: Fn(Global, QuerySource<'a>, Nest, &'a str) -> Result<(Boxed<Expr>, &'a str), Stop>,
 > OperatorReader<'a, F> {
     #[tactic(auto, unfolding(query_terms::specs::Grammar::unary))]
     pub(crate) fn unary(&self, rest: &'a str) -> Result<(Boxed<Expr>, &'a str), Stop>

@@ -5,10 +5,13 @@ ghost use Rattle.query_terms.specs.Grammar as spec;
 ghost use Rattle.query_tokens.specs.Reads.{at, Passes, Reads};
 
 use query_terms::Operator;
-use query_tokens::Source;
+use query_tokens::QuerySource;
 
 #[tactic(auto, unfolding(query_terms::specs::Grammar::set_operator))]
-pub(crate) fn set_operator<'a>(source: &Source<'a>, rest: &'a str) -> Option<(Operator, &'a str)>
+pub(crate) fn set_operator<'a>(
+    source: &QuerySource<'a>,
+    rest: &'a str,
+) -> Option<(Operator, &'a str)>
     ensures { Reads operator (at source.now spec.set_operator rest.now) result }
 {
     if let Some(after) = source.keyword(rest, "intersect") {
@@ -20,7 +23,7 @@ pub(crate) fn set_operator<'a>(source: &Source<'a>, rest: &'a str) -> Option<(Op
 
 #[tactic(auto, unfolding(query_terms::specs::Grammar::multiplicative_operator))]
 pub(crate) fn multiplicative_operator<'a>(
-    source: &Source<'a>,
+    source: &QuerySource<'a>,
     rest: &'a str,
 ) -> Option<(Operator, &'a str)>
     ensures { Reads operator (at source.now spec.multiplicative_operator rest.now) result }
@@ -40,7 +43,7 @@ pub(crate) fn multiplicative_operator<'a>(
 
 #[tactic(auto, unfolding(query_terms::specs::Grammar::additive_operator))]
 pub(crate) fn additive_operator<'a>(
-    source: &Source<'a>,
+    source: &QuerySource<'a>,
     rest: &'a str,
 ) -> Option<(Operator, &'a str)>
     ensures { Reads operator (at source.now spec.additive_operator rest.now) result }
@@ -53,7 +56,7 @@ pub(crate) fn additive_operator<'a>(
 }
 
 #[tactic(auto, unfolding(query_terms::specs::Grammar::union_operator))]
-pub(crate) fn union_operator<'a>(source: &Source<'a>, rest: &'a str) -> Option<&'a str>
+pub(crate) fn union_operator<'a>(source: &QuerySource<'a>, rest: &'a str) -> Option<&'a str>
     ensures { Passes (at source.now spec.union_operator rest.now) result }
 {
     if let Some(after) = source.word(rest, "|") {

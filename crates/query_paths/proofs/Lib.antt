@@ -1,3 +1,3 @@
 pub mod Nothing
-pub mod PlainFaults
+pub mod Refused
 pub mod Codes

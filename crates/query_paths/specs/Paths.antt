@@ -22,7 +22,7 @@ use Rattle.query_terms.specs.declared.tree.Operand.{Operand}
 use Rattle.query_terms.specs.declared.tree.OrderKey.{OrderKey}
 use Rattle.query_terms.specs.declared.tree.PathStep.{PathStep, out-PathStep}
 use Rattle.query_terms.specs.declared.tree.Declaration.{Declaration}
-use Rattle.query_terms.specs.declared.tree.Query.{Query}
+use Rattle.query_terms.specs.declared.tree.QueryTree.{QueryTree}
 use Rattle.query_terms.specs.Rule.{Text}
 
 -- ---- steps
@@ -61,7 +61,7 @@ test_of (tests.Name q) = option_map principal_named (plain_name q)
 
 -- a step without predicates, by what the term is made of
 abbrev pub step_by : Expr-F Clause Content Expr Attribute Operand OrderKey PathStep → Option AxisStep
-step_by (Expr-F.AxisStep span axis test) = option_map (λ (t : Test). record { axis = axis; test = t }) (test_of test)
+step_by (Expr-F.AxisStep span axis test tested) = option_map (λ (t : Test). record { axis = axis; test = t }) (test_of test)
 step_by _ = None
 
 unfoldable pub step_of : Expr → Option AxisStep
@@ -102,5 +102,5 @@ undeclared [] found = found
 undeclared (d ∷ more) found = None
 
 -- the steps of a query that is such a path
-unfoldable pub path_in : Query → Option (List AxisStep)
+unfoldable pub path_in : QueryTree → Option (List AxisStep)
 path_in q = undeclared q.declarations (steps_of q.body)

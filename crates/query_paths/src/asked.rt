@@ -23,7 +23,7 @@ fn read(alloc: Global, words: &str) -> Result<Query, Refusal>
 fn steps_in(alloc: Global, query: &Query) -> Result<Vec<AxisStep>, Refusal>
     ensures { AreSteps (λ v. v.items) query.now result }
 {
-    match path_in(alloc, query) {
+    match path_in(alloc, query.tree()) {
         Ok(Some(steps)) => Ok(steps),
         Ok(None) => Err(Refusal::Code(Code::XKCM0002)),
         Err(_) => Err(Refusal::NoMemory),

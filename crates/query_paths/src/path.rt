@@ -4,7 +4,7 @@ ghost use Rattle.std.specs.List.{fold};
 ghost use Rattle.std.specs.Option.{option_map};
 ghost use Rattle.query_paths.specs.Paths as spec;
 
-use query_terms::{Expr, Literal, NodeTest, PathStart, PathStep, QName, Query};
+use query_terms::{Expr, Literal, NodeTest, PathStart, PathStep, QName, QueryTree};
 use std::alloc::Global;
 use tree_model::{Axis, AxisStep, NoMemory, Test, Text};
 
@@ -207,7 +207,7 @@ fn path_steps(
 /// The steps from the documents to what a query asks for, where it is a path of axis steps without predicates and without
 /// prefixes and nothing is declared (XQuery 1.0, section 3.2); `None` where it is another query.
 #[tactic(auto, unfolding(crate::specs::Paths::path_in))]
-pub fn path_in(alloc: Global, query: &Query) -> Result<Option<Vec<AxisStep>>, NoMemory>
+pub fn path_in(alloc: Global, query: &QueryTree) -> Result<Option<Vec<AxisStep>>, NoMemory>
     ensures { IfOk result (λ steps. option_map (λ v. v.items) steps ≡ spec.path_in query.now) }
 {
     if query.declarations.is_empty() {

@@ -82,6 +82,28 @@ fn queries_with_their_first_fault(rt: HostRuntime) -> Result<(), Fail> {
     Ok(())
 }
 
+fn is_update(alloc: Global, text: &str) -> Option<bool> {
+    let query = match parse(alloc, text) {
+        Ok(query) => query,
+        Err(_) => return None,
+    };
+    match check(alloc, query) {
+        Ok(checked) => Some(checked.is_updating()),
+        Err(_) => None,
+    }
+}
+
+#[test]
+fn some_queries_update(rt: HostRuntime) -> Result<(), Fail> {
+    let alloc = rt.alloc();
+    assert_eq!(rt; is_update(alloc, "7"), Some(false));
+    assert_eq!(rt;
+        is_update(alloc, "if (1) then delete node /a else ()"),
+        Some(true)
+    );
+    Ok(())
+}
+
 #[test]
 fn queries_are_paths_or_not_valued_yet(rt: HostRuntime) -> Result<(), Fail> {
     let alloc = rt.alloc();

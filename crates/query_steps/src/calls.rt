@@ -9,7 +9,7 @@ ghost use Rattle.query_steps.specs.Parts.{as_maybe_terms};
 use crate::paths::PathReader;
 use crate::reserved::reserved;
 use query_terms::{Expr, Nest, Stop};
-use query_tokens::{Source, tried};
+use query_tokens::{QuerySource, tried};
 use sqlite_items::{Boxed, Items};
 use std::alloc::Global;
 use tree_model::NoMemory;
@@ -29,7 +29,7 @@ fn with_others(
 
 impl<
     'a,
-    F: Fn(Global, Source<'a>, Nest, &'a str) -> Result<(Boxed<Expr>, &'a str), Stop>,
+    F: Fn(Global, QuerySource<'a>, Nest, &'a str) -> Result<(Boxed<Expr>, &'a str), Stop>,
 > PathReader<'a, F> {
     #[tactic(auto, unfolding(query_terms::specs::Grammar::arguments))]
     fn arguments(&self, rest: &'a str) -> Result<(Items<Expr>, &'a str), Stop>
@@ -88,6 +88,7 @@ impl<
             span,
             name,
             arguments,
+            function: None,
         };
         Ok((Boxed::new(self.markup.descent.alloc, term)?, after))
     }

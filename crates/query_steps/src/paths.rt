@@ -8,7 +8,7 @@ ghost use Rattle.query_steps.specs.Parts.{as_relative, as_maybe_relative};
 
 use query_constructors::Markup;
 use query_terms::{Expr, Nest, PathStart, PathStep, Span, Stop};
-use query_tokens::{Source, tried};
+use query_tokens::{QuerySource, tried};
 use sqlite_items::{Boxed, Items};
 use std::alloc::Global;
 use tree_model::NoMemory;
@@ -77,7 +77,7 @@ fn relative_term(
 
 impl<
     'a,
-    F: Fn(Global, Source<'a>, Nest, &'a str) -> Result<(Boxed<Expr>, &'a str), Stop>,
+    F: Fn(Global, QuerySource<'a>, Nest, &'a str) -> Result<(Boxed<Expr>, &'a str), Stop>,
 > PathReader<'a, F> {
     #[tactic(auto, unfolding(query_terms::specs::Grammar::relative))]
     fn relative(&self, rest: &'a str) -> Result<(Relative, &'a str), Stop>

@@ -8,13 +8,13 @@ ghost use Rattle.query_tokens.specs.Descends.{Nests, Opens};
 
 use crate::paths::PathReader;
 use query_terms::{Expr, Nest, Stop};
-use query_tokens::{Source, tried};
+use query_tokens::{QuerySource, tried};
 use sqlite_items::Boxed;
 use std::alloc::Global;
 
 impl<
     'a,
-    F: Fn(Global, Source<'a>, Nest, &'a str) -> Result<(Boxed<Expr>, &'a str), Stop>,
+    F: Fn(Global, QuerySource<'a>, Nest, &'a str) -> Result<(Boxed<Expr>, &'a str), Stop>,
 > PathReader<'a, F> {
     fn number(&self, rest: &'a str) -> Result<(Boxed<Expr>, &'a str), Stop>
         ensures { Opens term (at self.now.markup.descent.source lexis.number rest.now) result }

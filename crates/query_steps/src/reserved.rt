@@ -4,10 +4,10 @@ ghost use Rattle.query_terms.specs.Rule.{alt, word};
 ghost use Rattle.query_terms.specs.Grammar as spec;
 ghost use Rattle.query_tokens.specs.Reads.{at, Passes};
 
-use query_tokens::{CharClass, Source};
+use query_tokens::{CharClass, QuerySource};
 
 #[tactic(auto, unfolding(query_terms::specs::Grammar::reserved_kind))]
-fn reserved_kind<'a>(source: &Source<'a>, rest: &'a str) -> Option<&'a str>
+fn reserved_kind<'a>(source: &QuerySource<'a>, rest: &'a str) -> Option<&'a str>
     ensures { Passes (at source.now spec.reserved_kind rest.now) result }
 {
     if let Some(after) = source.word(rest, "attribute") {
@@ -31,7 +31,7 @@ fn reserved_kind<'a>(source: &Source<'a>, rest: &'a str) -> Option<&'a str>
     source.word(rest, "text")
 }
 
-fn schema_word<'a>(source: &Source<'a>, rest: &'a str) -> Option<&'a str>
+fn schema_word<'a>(source: &QuerySource<'a>, rest: &'a str) -> Option<&'a str>
     ensures { Passes (at source.now (alt (word (codes "schema-attribute")) (alt (word (codes "schema-element")) (word (codes "typeswitch")))) rest.now) result }
 {
     if let Some(after) = source.word(rest, "schema-attribute") {
@@ -44,7 +44,7 @@ fn schema_word<'a>(source: &Source<'a>, rest: &'a str) -> Option<&'a str>
 }
 
 #[tactic(auto, unfolding(query_terms::specs::Grammar::reserved_word))]
-fn reserved_word<'a>(source: &Source<'a>, rest: &'a str) -> Option<&'a str>
+fn reserved_word<'a>(source: &QuerySource<'a>, rest: &'a str) -> Option<&'a str>
     ensures { Passes (at source.now spec.reserved_word rest.now) result }
 {
     if let Some(after) = source.word(rest, "empty-sequence") {
@@ -59,7 +59,7 @@ fn reserved_word<'a>(source: &Source<'a>, rest: &'a str) -> Option<&'a str>
     schema_word(source, rest)
 }
 
-fn reserved_front<'a>(source: &Source<'a>, rest: &'a str) -> Option<&'a str>
+fn reserved_front<'a>(source: &QuerySource<'a>, rest: &'a str) -> Option<&'a str>
     ensures { Passes (at source.now (alt spec.reserved_kind spec.reserved_word) rest.now) result }
 {
     if let Some(after) = reserved_kind(source, rest) {
@@ -70,7 +70,7 @@ fn reserved_front<'a>(source: &Source<'a>, rest: &'a str) -> Option<&'a str>
 
 // The text behind a name that no function has, where one stands.
 #[tactic(auto, unfolding(query_terms::specs::Grammar::reserved))]
-pub(crate) fn reserved<'a>(source: &Source<'a>, rest: &'a str) -> Option<&'a str>
+pub(crate) fn reserved<'a>(source: &QuerySource<'a>, rest: &'a str) -> Option<&'a str>
     ensures { Passes (at source.now spec.reserved rest.now) result }
 {
     let after = reserved_front(source, rest)?;

@@ -9,7 +9,7 @@ ghost use Rattle.query_tokens.specs.Descends.{Nests, Opens, Gathers};
 
 use crate::paths::PathReader;
 use query_terms::{Expr, Nest, PathStep, Span, Stop};
-use query_tokens::{Source, tried};
+use query_tokens::{QuerySource, tried};
 use sqlite_items::{Boxed, Items};
 use std::alloc::Global;
 use tree_model::NoMemory;
@@ -36,7 +36,7 @@ fn filtered(
 
 impl<
     'a,
-    F: Fn(Global, Source<'a>, Nest, &'a str) -> Result<(Boxed<Expr>, &'a str), Stop>,
+    F: Fn(Global, QuerySource<'a>, Nest, &'a str) -> Result<(Boxed<Expr>, &'a str), Stop>,
 > PathReader<'a, F> {
     #[tactic(auto, unfolding(query_terms::specs::Grammar::predicate))]
     fn predicate(&self, rest: &'a str) -> Result<(Boxed<Expr>, &'a str), Stop>

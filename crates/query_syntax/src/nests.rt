@@ -1,6 +1,6 @@
 // What nests: expressions without a comma, and elements. At most 200 are open at a place.
 ghost use Rattle.std.specs.Prelude.{◌≡◌};
-ghost use Rattle.query_terms.specs.Rule.{term, call, nested as nested_knot};
+ghost use Rattle.query_terms.specs.Rule.{term, call, nested as nested_rule};
 ghost use Rattle.query_terms.specs.Markup as markup;
 ghost use Rattle.query_terms.specs.Grammar as spec;
 ghost use Rattle.query_tokens.specs.Reads.{at};
@@ -11,7 +11,7 @@ use query_constructors::Markup;
 use query_operators::OperatorReader;
 use query_steps::PathReader;
 use query_terms::{Expr, Nest, Stop};
-use query_tokens::{Descent, Source, tried};
+use query_tokens::{Descent, QuerySource, tried};
 use sqlite_items::Boxed;
 use std::alloc::Global;
 
@@ -19,10 +19,10 @@ use std::alloc::Global;
 #[tactic(auto, unfolding(query_terms::specs::Grammar::single_rule))]
 fn single_rule<
     'a,
-    F: Copy + Fn(Global, Source<'a>, Nest, &'a str) -> Result<(Boxed<Expr>, &'a str), Stop>,
+    F: Copy + Fn(Global, QuerySource<'a>, Nest, &'a str) -> Result<(Boxed<Expr>, &'a str), Stop>,
 >(
     alloc: Global,
-    source: Source<'a>,
+    source: QuerySource<'a>,
     nested: F,
     rest: &'a str,
 ) -> Result<(Boxed<Expr>, &'a str), Stop>
@@ -62,10 +62,10 @@ fn single_rule<
 
 fn operators<
     'a,
-    F: Copy + Fn(Global, Source<'a>, Nest, &'a str) -> Result<(Boxed<Expr>, &'a str), Stop>,
+    F: Copy + Fn(Global, QuerySource<'a>, Nest, &'a str) -> Result<(Boxed<Expr>, &'a str), Stop>,
 >(
     alloc: Global,
-    source: Source<'a>,
+    source: QuerySource<'a>,
     nested: F,
     rest: &'a str,
 ) -> Result<(Boxed<Expr>, &'a str), Stop>
@@ -87,10 +87,10 @@ fn operators<
 
 fn element<
     'a,
-    F: Copy + Fn(Global, Source<'a>, Nest, &'a str) -> Result<(Boxed<Expr>, &'a str), Stop>,
+    F: Copy + Fn(Global, QuerySource<'a>, Nest, &'a str) -> Result<(Boxed<Expr>, &'a str), Stop>,
 >(
     alloc: Global,
-    source: Source<'a>,
+    source: QuerySource<'a>,
     nested: F,
     rest: &'a str,
 ) -> Result<(Boxed<Expr>, &'a str), Stop>
@@ -110,18 +110,18 @@ fn element<
 // Opens a nest, where fewer than 200 are open.
 pub(crate) fn nested<'a>(
     alloc: Global,
-    source: Source<'a>,
+    source: QuerySource<'a>,
     nest: Nest,
     rest: &'a str,
 ) -> Result<(Boxed<Expr>, &'a str), Stop>
-    ensures { Opens term (at source.entry (call (nested_knot nest)) rest.now) result }
+    ensures { Opens term (at source.entry (call (nested_rule nest)) rest.now) result }
 {
     if source.room == 0 {
         return Err(Stop::TooDeep);
     }
-    let inner = Source {
+    let inner = QuerySource {
         query: source.query,
-        closings: source.closings,
+        comment_ends: source.comment_ends,
         room: source.room - 1,
     };
     match nest {

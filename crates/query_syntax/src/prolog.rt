@@ -7,14 +7,14 @@ ghost use Rattle.query_tokens.specs.Reads.{at, as_literal, Passes, Reads};
 ghost use Rattle.query_tokens.specs.Descends.{Opens, Gathers};
 
 use crate::nests::nested;
-use query_terms::{Declaration, Expr, Query, Stop};
-use query_tokens::{Descent, Source, WrittenString, tried};
+use query_terms::{Declaration, Expr, QueryTree, Stop};
+use query_tokens::{Descent, QuerySource, WrittenString, tried};
 use sqlite_items::{Boxed, Items};
 use std::alloc::Global;
 use tree_model::Text;
 
 #[tactic(auto, unfolding(query_terms::specs::Grammar::declared_uri))]
-fn declared_uri<'a>(source: &Source<'a>, rest: &'a str) -> Option<(WrittenString<'a>, &'a str)>
+fn declared_uri<'a>(source: &QuerySource<'a>, rest: &'a str) -> Option<(WrittenString<'a>, &'a str)>
     ensures { Reads (as_literal source.now) (at source.now spec.declared_uri rest.now) result }
 {
     let after = source.blanks(rest);
@@ -26,7 +26,7 @@ fn declared_uri<'a>(source: &Source<'a>, rest: &'a str) -> Option<(WrittenString
 #[tactic(auto, unfolding(query_terms::specs::Grammar::namespace_declaration))]
 fn namespace_declaration<'a>(
     alloc: Global,
-    source: &Source<'a>,
+    source: &QuerySource<'a>,
     rest: &'a str,
 ) -> Result<(Declaration, &'a str), Stop>
     ensures { Opens declaration (at source.now spec.namespace_declaration rest.now) result }
@@ -44,7 +44,7 @@ fn namespace_declaration<'a>(
 #[tactic(auto, unfolding(query_terms::specs::Grammar::default_declaration))]
 fn default_declaration<'a>(
     alloc: Global,
-    source: &Source<'a>,
+    source: &QuerySource<'a>,
     rest: &'a str,
 ) -> Result<(Declaration, &'a str), Stop>
     ensures { Opens declaration (at source.now spec.default_declaration rest.now) result }
@@ -61,7 +61,7 @@ fn default_declaration<'a>(
 
 fn either_declaration<'a>(
     alloc: Global,
-    source: &Source<'a>,
+    source: &QuerySource<'a>,
     rest: &'a str,
 ) -> Result<(Declaration, &'a str), Stop>
     ensures { Opens declaration (at source.now (alt spec.namespace_declaration spec.default_declaration) rest.now) result }
@@ -75,7 +75,7 @@ fn either_declaration<'a>(
 #[tactic(auto, unfolding(query_terms::specs::Grammar::declaration_rule))]
 fn declaration<'a>(
     alloc: Global,
-    source: &Source<'a>,
+    source: &QuerySource<'a>,
     rest: &'a str,
 ) -> Result<(Declaration, &'a str), Stop>
     ensures { Opens declaration (at source.now spec.declaration_rule rest.now) result }
@@ -88,7 +88,7 @@ fn declaration<'a>(
 
 fn declarations<'a>(
     alloc: Global,
-    source: &Source<'a>,
+    source: &QuerySource<'a>,
     rest: &'a str,
 ) -> Result<(Items<Declaration>, &'a str), Stop>
     ensures { Gathers spec.declarations_in (at source.now (many spec.declaration_rule) rest.now) result }
@@ -112,7 +112,7 @@ fn declarations<'a>(
 // The expression of a query.
 fn body<'a>(
     alloc: Global,
-    source: &Source<'a>,
+    source: &QuerySource<'a>,
     rest: &'a str,
 ) -> Result<(Boxed<Expr>, &'a str), Stop>
     ensures { Opens term (at source.now expr rest.now) result }
@@ -127,7 +127,7 @@ fn body<'a>(
 
 // Nothing, at the end of the text.
 #[tactic(auto, unfolding(query_terms::specs::Rule::any_at))]
-fn at_end<'a>(source: &Source<'a>, rest: &'a str) -> Option<&'a str>
+fn at_end<'a>(source: &QuerySource<'a>, rest: &'a str) -> Option<&'a str>
     ensures { Passes (at source.now (not any) rest.now) result }
 {
     match rest.as_bytes() {
@@ -140,9 +140,9 @@ fn at_end<'a>(source: &Source<'a>, rest: &'a str) -> Option<&'a str>
 #[tactic(auto, unfolding(query_terms::specs::Grammar::query_rule))]
 pub(crate) fn query<'a>(
     alloc: Global,
-    source: &Source<'a>,
+    source: &QuerySource<'a>,
     rest: &'a str,
-) -> Result<(Query, &'a str), Stop>
+) -> Result<(QueryTree, &'a str), Stop>
     ensures { Opens query (at source.now spec.query_rule rest.now) result }
 {
     let after = source.blanks(rest);
@@ -150,5 +150,5 @@ pub(crate) fn query<'a>(
     let (body, after) = body(alloc, source, after)?;
     let after = source.blanks(after);
     let after = at_end(source, after).ok_or(Stop::Refused)?;
-    Ok((Query { declarations, body }, after))
+    Ok((QueryTree { declarations, body }, after))
 }

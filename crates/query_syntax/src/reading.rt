@@ -5,8 +5,8 @@ ghost use Rattle.query_terms.specs.Parse as spec;
 ghost use Rattle.query_syntax.specs.Parses.{Answers, Parses};
 
 use crate::prolog::query;
-use query_terms::{Query, Stop, SyntaxFault};
-use query_tokens::{Source, comment_ends, first, front};
+use query_terms::{Query, QueryTree, Stop, SyntaxFault};
+use query_tokens::{QuerySource, comment_ends, first, front};
 use std::alloc::Global;
 use xml_pieces::is_xml_char;
 
@@ -27,13 +27,13 @@ fn good_front(text: &str) -> &str
     front(text, rest)
 }
 
-fn read(alloc: Global, text: &str) -> Result<Query, Stop>
+fn read(alloc: Global, text: &str) -> Result<QueryTree, Stop>
     ensures { Answers (spec.read_query text.now) result }
 {
-    let closings = comment_ends(alloc, text)?;
-    let source = Source {
+    let ends = comment_ends(alloc, text)?;
+    let source = QuerySource {
         query: text,
-        closings: closings.as_slice(),
+        comment_ends: ends.as_slice(),
         room: MAX_OPEN,
     };
     match query(alloc, &source, text) {
@@ -56,7 +56,7 @@ pub fn parse(alloc: Global, text: &str) -> Result<Query, SyntaxFault>
     match read(alloc, good) {
         Ok(found) => {
             if good.len() == text.len() {
-                Ok(found)
+                Ok(Query::of(found, text))
             } else {
                 Err(SyntaxFault::NoReading)
             }

@@ -45,7 +45,7 @@ in_expression (Expr-F.Unary span is_negative operand) = operand
 in_expression (Expr-F.Root span) = false
 in_expression (Expr-F.Path span start first others) = first || some others
 in_expression (Expr-F.Filter span head predicates) = head || some predicates
-in_expression (Expr-F.AxisStep span axis _) = false
+in_expression (Expr-F.AxisStep span axis _ _) = false
 in_expression (Expr-F.Number span text) = false
 in_expression (Expr-F.String span literal) = false
 in_expression (Expr-F.Variable variable) = false
@@ -57,7 +57,7 @@ in_expression (Expr-F.DirectInstruction span target text) = true
 in_expression (Expr-F.Computed span kind name body) = true
 in_expression (Expr-F.ComputedByValue span kind name scope body) = true
 in_expression (Expr-F.ComputedUnnamed span kind body) = true
-in_expression (Expr-F.Call span name arguments) = some arguments
+in_expression (Expr-F.Call span name arguments function) = some arguments
 
 abbrev pub in_clause : Clause-F Bool Bool Bool Bool Bool Bool Bool → Bool
 in_clause (Clause-F.For variable position source) = source

@@ -144,7 +144,7 @@ unfoldable pub arguments : Rule
 arguments = node some_arguments (single ~ many next_single)
 
 abbrev pub a_call : ℕ → ℕ → Value → Value
-a_call from to v = term (exprs.Call (between from to) (name_of (left v)) (terms_of (right v)))
+a_call from to v = term (exprs.Call (between from to) (name_of (left v)) (terms_of (right v)) None)
 
 unfoldable pub argument_list : Rule
 argument_list = blanks ~ word (codes "(") ~ blanks ~ opt arguments ~ blanks ~ word (codes ")")

@@ -228,7 +228,7 @@ string_rule = string_in 34 // string_in 39
 -- comments nest as deep as they are written, and each has bytes of its own, so the length bounds how deep they nest
 unfoldable pub comments : ℕ → Text → Outcome
 comments zero s = Err Refused
-comments (suc n) s = fits 0 (λ knot. comments n) comment_rule s
+comments (suc n) s = fits 0 (λ recursion. comments n) comment_rule s
 
 abbrev pub any_comment : Text → Outcome
 any_comment s = comments (length s) s

@@ -1,9 +1,15 @@
 -- A query with the URIs of its names (XQuery 1.0, section 2.1.1), and with the namespaces that are in force where a name is first known
 -- when it is valued.
 use Rattle.std.specs.Prelude.{Bool, true, false, if◌then◌else◌, List, [], ◌∷◌, ◌++◌, map, Option, Some, None}
+use Rattle.std.specs.Str.{bytes_eq}
+use Rattle.tree_model.specs.Functions.{function_named}
+use Rattle.tree_model.specs.declared.function.Function.{Function}
+use Rattle.tree_model.specs.declared.axis.Test.{Test}
+use Rattle.tree_model.specs.declared.axis.Test.TheVariants as walked
 use Rattle.tree_model.specs.declared.axis.Axis.{Axis}
 use Rattle.tree_model.specs.declared.axis.Axis.TheVariants as axes
 use Rattle.query_terms.specs.declared.parts.QName.{QName}
+use Rattle.query_terms.specs.declared.parts.Span.{Span}
 use Rattle.query_terms.specs.declared.parts.Variable.{Variable}
 use Rattle.query_terms.specs.declared.parts.Binding.{Binding}
 use Rattle.query_terms.specs.declared.parts.Scope.{Scope}
@@ -23,7 +29,7 @@ use Rattle.query_terms.specs.declared.tree.Expr.TheVariants as exprs
 use Rattle.query_terms.specs.declared.tree.Operand.{Operand, roll-Operand}
 use Rattle.query_terms.specs.declared.tree.OrderKey.{OrderKey, roll-OrderKey}
 use Rattle.query_terms.specs.declared.tree.PathStep.{PathStep, roll-PathStep}
-use Rattle.query_terms.specs.declared.tree.Query.{Query}
+use Rattle.query_terms.specs.declared.tree.QueryTree.{QueryTree}
 use Rattle.query_terms.specs.Rule.{Text}
 use Rattle.query_terms.specs.Static.{declared_by, declared_in, functions_uri, prolog_bindings, uri_of, uri_or}
 
@@ -65,6 +71,35 @@ resolved_test axis test bindings = test
 
 unfoldable pub resolved_variable : Variable → List Binding → Variable
 resolved_variable v bindings = record { span = v.span; name = bare_name bindings v.name }
+
+-- ---- what walks and calls take
+
+-- of a test whose names have their URIs
+unfoldable pub walked_test : NodeTest → Test
+walked_test tests.Node = walked.Node
+walked_test tests.Text = walked.Text
+walked_test tests.Comment = walked.Comment
+walked_test tests.Document = walked.Document
+walked_test (tests.Instruction None) = walked.Pi None
+walked_test (tests.Instruction (Some l)) = walked.Pi (Some l.text)
+walked_test (tests.Element None) = walked.Element None None
+walked_test (tests.Element (Some q)) = walked.Element (Some q.name.uri) (Some q.name.local)
+walked_test (tests.Attribute None) = walked.Attribute None None
+walked_test (tests.Attribute (Some q)) = walked.Attribute (Some q.name.uri) (Some q.name.local)
+walked_test tests.Any = walked.Principal None None
+walked_test (tests.LocalName local) = walked.Principal None (Some local)
+walked_test (tests.Namespace q) = walked.Principal (Some q.name.uri) None
+walked_test (tests.Name q) = walked.Principal (Some q.name.uri) (Some q.name.local)
+
+abbrev pub axis_step : Span → Axis → NodeTest → Expr
+axis_step span axis test = exprs.AxisStep span axis test (Some (walked_test test))
+
+-- of a name with its URI
+unfoldable pub called_function : QName → Option Function
+called_function q = if bytes_eq q.name.uri functions_uri then function_named q.name.local else None
+
+abbrev pub function_call : Span → QName → List Expr → Expr
+function_call span q arguments = exprs.Call span q arguments (called_function q)
 
 -- ---- what parts become where these bindings are in force
 
@@ -131,7 +166,7 @@ in_expression (Expr-F.Unary span is_negative operand) b = exprs.Unary span is_ne
 in_expression (Expr-F.Root span) b = exprs.Root span
 in_expression (Expr-F.Path span start first others) b = exprs.Path span start (first b) (each others b)
 in_expression (Expr-F.Filter span head predicates) b = exprs.Filter span (head b) (each predicates b)
-in_expression (Expr-F.AxisStep span axis test) b = exprs.AxisStep span axis (resolved_test axis test b)
+in_expression (Expr-F.AxisStep span axis test tested) b = axis_step span axis (resolved_test axis test b)
 in_expression (Expr-F.Number span text) b = exprs.Number span text
 in_expression (Expr-F.String span literal) b = exprs.String span literal
 in_expression (Expr-F.Variable variable) b = exprs.Variable (resolved_variable variable b)
@@ -145,7 +180,7 @@ in_expression (Expr-F.DirectInstruction span target text) b = exprs.DirectInstru
 in_expression (Expr-F.Computed span kind name body) b = exprs.Computed span kind (computed_name kind b name) (perhaps body b)
 in_expression (Expr-F.ComputedByValue span kind name scope body) b = exprs.ComputedByValue span kind (name b) (scope_of b) (perhaps body b)
 in_expression (Expr-F.ComputedUnnamed span kind body) b = exprs.ComputedUnnamed span kind (body b)
-in_expression (Expr-F.Call span name arguments) b = exprs.Call span (function_name b name) (each arguments b)
+in_expression (Expr-F.Call span name arguments function) b = function_call span (function_name b name) (each arguments b)
 
 abbrev pub in_clause : Clause-F (Resolution Clause) ContentResolution (Resolution Expr) AttributeResolution (Resolution Operand) (Resolution OrderKey) (Resolution PathStep) → Resolution Clause
 in_clause (Clause-F.For variable position source) b = clauses.For (resolved_variable variable b) (maybe_variable position b) (source b)
@@ -194,5 +229,5 @@ key = fold-OrderKey (Resolution Clause) ContentResolution (Resolution Expr) Attr
 unfoldable pub step : PathStep → Resolution PathStep
 step = fold-PathStep (Resolution Clause) ContentResolution (Resolution Expr) AttributeResolution (Resolution Operand) (Resolution OrderKey) (Resolution PathStep) in_clause in_content in_expression in_attribute in_operand in_key in_step
 
-unfoldable pub resolved_query : Query → Query
+unfoldable pub resolved_query : QueryTree → QueryTree
 resolved_query q = record { declarations = q.declarations; body = resolved q.body (prolog_bindings q.declarations) }

@@ -25,7 +25,7 @@ use Rattle.query_terms.specs.declared.tree.Clause.{Clause}
 use Rattle.query_terms.specs.declared.tree.OrderKey.{OrderKey}
 use Rattle.query_terms.specs.declared.tree.Attribute.{Attribute}
 use Rattle.query_terms.specs.declared.tree.Content.{Content}
-use Rattle.query_terms.specs.declared.tree.Query.{Query}
+use Rattle.query_terms.specs.declared.tree.QueryTree.{QueryTree}
 
 abbrev pub Text : Type 0
 Text = List ℕ
@@ -68,16 +68,16 @@ pub data Value : Type 0 where
   content : Content → Value
   contents : List Content → Value
   declaration : Declaration → Value
-  query : Query → Value
+  query : QueryTree → Value
 
 -- what was read, and the text behind it
 abbrev pub Outcome : Type 0
 Outcome = Result (Value × Text) Stop
 
 -- the rules that may call themselves: comments, and the nests of which at most 200 are open
-pub data Knot : Type 0 where
-  comment : Knot
-  nested : Nest → Knot
+pub data Recursion : Type 0 where
+  comment : Recursion
+  nested : Nest → Recursion
 
 pub data Rule : Type 0 where
   word : Text → Rule
@@ -91,7 +91,7 @@ pub data Rule : Type 0 where
   node : (ℕ → ℕ → Value → Value) → Rule → Rule  -- a value made of the one read, and of where it begins and ends
   read : (Text → Value → Value) → Rule → Rule  -- a value made of the text that is read, and of its value
   when : (Value → Bool) → Rule → Rule  -- the rule where its value passes
-  call : Knot → Rule
+  call : Recursion → Rule
 
 infixr 6 ◌~◌
 abbrev pub ◌~◌ : Rule → Rule → Rule
@@ -158,17 +158,17 @@ turns (suc n) p v s = turn (turns n p) v s (p s)
 abbrev pub listed : Value × Text → Outcome
 listed x = Ok (list x.0, x.1)
 
--- in a text of so many bytes, where the knots read so
-abbrev pub fits : ℕ → (Knot → Text → Outcome) → Rule → Text → Outcome
-fits total knots (word w) s = word_at w s
-fits total knots any s = any_at s
-fits total knots (char p) s = passing p (first s)
-fits total knots (seq a b) s = and_then (fits total knots a s) (λ x. and_then (fits total knots b x.1) (λ y. Ok (join x.0 y.0, y.1)))
-fits total knots (alt a b) s = or_else (fits total knots a s) (fits total knots b s)
-fits total knots (many r) s = and_then (turns (suc (length s)) (fits total knots r) empty s) listed
-fits total knots (opt r) s = or_else (fits total knots r s) (Ok (absent, s))
-fits total knots (not r) s = unless (fits total knots r s) s
-fits total knots (node f r) s = and_then (fits total knots r s) (λ x. Ok (f (total - length s) (total - length x.1) x.0, x.1))
-fits total knots (read f r) s = and_then (fits total knots r s) (λ x. Ok (f (take (length s - length x.1) s) x.0, x.1))
-fits total knots (when p r) s = and_then (fits total knots r s) (λ x. if p x.0 then Ok x else Err Refused)
-fits total knots (call k) s = knots k s
+-- in a text of so many bytes, where the recursive rules read so
+abbrev pub fits : ℕ → (Recursion → Text → Outcome) → Rule → Text → Outcome
+fits total recursions (word w) s = word_at w s
+fits total recursions any s = any_at s
+fits total recursions (char p) s = passing p (first s)
+fits total recursions (seq a b) s = and_then (fits total recursions a s) (λ x. and_then (fits total recursions b x.1) (λ y. Ok (join x.0 y.0, y.1)))
+fits total recursions (alt a b) s = or_else (fits total recursions a s) (fits total recursions b s)
+fits total recursions (many r) s = and_then (turns (suc (length s)) (fits total recursions r) empty s) listed
+fits total recursions (opt r) s = or_else (fits total recursions r s) (Ok (absent, s))
+fits total recursions (not r) s = unless (fits total recursions r s) s
+fits total recursions (node f r) s = and_then (fits total recursions r s) (λ x. Ok (f (total - length s) (total - length x.1) x.0, x.1))
+fits total recursions (read f r) s = and_then (fits total recursions r s) (λ x. Ok (f (take (length s - length x.1) s) x.0, x.1))
+fits total recursions (when p r) s = and_then (fits total recursions r s) (λ x. if p x.0 then Ok x else Err Refused)
+fits total recursions (call k) s = recursions k s

@@ -2,6 +2,9 @@
 use Rattle.std.specs.Prelude.{ℕ, Bool, true, false, not, ◌&&◌, ◌||◌, ◌==◌, nat_lt, if◌then◌else◌, List, [], ◌∷◌, ◌++◌, length, map, Option, Some, None, codes}
 use Rattle.std.specs.List.{concat, fold, list_any}
 use Rattle.std.specs.Str.{bytes_eq}
+use Rattle.tree_model.specs.Functions.{function_named, takes}
+use Rattle.tree_model.specs.QueryCodes.{QueryCode, XPST0008, XPST0017, XPST0081, XQST0033, XQST0066, XQST0070, XQST0089, XQST0090, FORG0001, FOAR0002}
+use Rattle.tree_model.specs.declared.function.Function.{Function}
 use Rattle.tree_model.specs.Numbers.{Numeral, number, no_number, too_great, numeral}
 use Rattle.tree_model.specs.Sound.{is_empty}
 use Rattle.tree_model.specs.declared.text.Name.{Name}
@@ -23,7 +26,7 @@ use Rattle.query_terms.specs.declared.tree.Expr.{Expr}
 use Rattle.query_terms.specs.declared.tree.Operand.{Operand}
 use Rattle.query_terms.specs.declared.tree.OrderKey.{OrderKey}
 use Rattle.query_terms.specs.declared.tree.PathStep.{PathStep}
-use Rattle.query_terms.specs.declared.tree.Query.{Query}
+use Rattle.query_terms.specs.declared.tree.QueryTree.{QueryTree}
 use Rattle.query_terms.specs.Rule.{Text}
 
 -- ---- faults
@@ -33,9 +36,9 @@ use Rattle.query_terms.specs.Rule.{Text}
 pub record Fault : Type 0 where
   pub place : ℕ
   pub rule : ℕ
-  pub code : Text
+  pub code : QueryCode
 
-abbrev pub fault : ℕ → ℕ → Text → Fault
+abbrev pub fault : ℕ → ℕ → QueryCode → Fault
 fault place rule code = record { place = place; rule = rule; code = code }
 
 abbrev pub fault_if : Bool → Fault → List Fault
@@ -136,70 +139,41 @@ abbrev pub with_maybe_variable : Option Variable → Environment → Environment
 with_maybe_variable None env = env
 with_maybe_variable (Some v) env = with_variable v env
 
--- ---- the functions that may be called (XQuery 1.0 and XPath 2.0 Functions and Operators), by their numbers of arguments
+-- ---- calls
 
-abbrev pub is_one_of : List Text → Text → Bool
-is_one_of names local = list_any (bytes_eq local) names
+abbrev pub takes_so_many : Option Function → ℕ → Bool
+takes_so_many None count = false
+takes_so_many (Some f) count = takes f count
 
-unfoldable pub takes_none : Text → Bool
-takes_none = is_one_of
-    (codes "collection" ∷ codes "root" ∷ codes "name" ∷ codes "local-name" ∷ codes "namespace-uri" ∷ codes "string" ∷ codes "number" ∷
-    codes "true" ∷ codes "false" ∷ codes "position" ∷ codes "last" ∷ codes "string-length" ∷ codes "normalize-space" ∷ [])
-
-unfoldable pub takes_one : Text → Bool
-takes_one = is_one_of
-    (codes "doc" ∷ codes "collection" ∷ codes "root" ∷ codes "name" ∷ codes "local-name" ∷ codes "namespace-uri" ∷ codes "string" ∷
-    codes "data" ∷ codes "number" ∷ codes "boolean" ∷ codes "not" ∷ codes "count" ∷ codes "empty" ∷ codes "exists" ∷ codes "sum" ∷
-    codes "avg" ∷ codes "min" ∷ codes "max" ∷ codes "distinct-values" ∷ codes "reverse" ∷ codes "string-length" ∷
-    codes "normalize-space" ∷ codes "round" ∷ [])
-
-unfoldable pub takes_two : Text → Bool
-takes_two = is_one_of
-    (codes "subsequence" ∷ codes "concat" ∷ codes "string-join" ∷ codes "contains" ∷ codes "starts-with" ∷ codes "ends-with" ∷
-    codes "substring" ∷ [])
-
-unfoldable pub takes_three : Text → Bool
-takes_three = is_one_of (codes "subsequence" ∷ codes "concat" ∷ codes "substring" ∷ [])
-
-unfoldable pub takes_more : Text → Bool
-takes_more = is_one_of (codes "concat" ∷ [])
-
-unfoldable pub takes : ℕ → Text → Bool
-takes count local =
-    if count == 0 then takes_none local
-    else if count == 1 then takes_one local
-    else if count == 2 then takes_two local
-    else if count == 3 then takes_three local
-    else takes_more local
-
+-- there is a function of this name with so many arguments
 unfoldable pub is_function : List Binding → Name → ℕ → Bool
-is_function bindings n count = bytes_eq (uri_or functions_uri bindings n) functions_uri && takes count n.local
+is_function bindings n count = bytes_eq (uri_or functions_uri bindings n) functions_uri && takes_so_many (function_named n.local) count
 
 -- ---- what a term may break by itself
 
 unfoldable pub literal_faults : Literal → List Fault
-literal_faults l = elim l.bad_reference [ None ↦ [] | Some at ↦ fault at 2 (codes "XQST0090") ∷ [] ]
+literal_faults l = elim l.bad_reference [ None ↦ [] | Some at ↦ fault at 2 XQST0090 ∷ [] ]
 
 abbrev pub numeral_faults : ℕ → Numeral → List Fault
 numeral_faults place (number z) = []
-numeral_faults place no_number = fault place 3 (codes "FORG0001") ∷ []
-numeral_faults place too_great = fault place 3 (codes "FOAR0002") ∷ []
+numeral_faults place no_number = fault place 3 FORG0001 ∷ []
+numeral_faults place too_great = fault place 3 FOAR0002 ∷ []
 
 unfoldable pub number_faults : Span → Text → List Fault
 number_faults span text = numeral_faults span.from (numeral text)
 
 unfoldable pub name_faults : QName → Environment → List Fault
-name_faults q env = fault_if (is_unbound env.bindings q.name) (fault q.span.from 5 (codes "XPST0081"))
+name_faults q env = fault_if (is_unbound env.bindings q.name) (fault q.span.from 5 XPST0081)
 
 unfoldable pub variable_faults : Variable → Environment → List Fault
 variable_faults v env =
-    fault_if (not (is_among env.bindings env.variables v.name.name)) (fault v.span.from 6 (codes "XPST0008")) ++ name_faults v.name env
+    fault_if (not (is_among env.bindings env.variables v.name.name)) (fault v.span.from 6 XPST0008) ++ name_faults v.name env
 
 -- a variable for the place, beside this one
 unfoldable pub position_faults : Variable → Option Variable → Environment → List Fault
 position_faults v None env = []
 position_faults v (Some p) env =
-    fault_if (is_among env.bindings (bound_names env.bindings v) p.name.name) (fault p.span.from 6 (codes "XQST0089")) ++ name_faults p.name env
+    fault_if (is_among env.bindings (bound_names env.bindings v) p.name.name) (fault p.span.from 6 XQST0089) ++ name_faults p.name env
 
 unfoldable pub test_faults : NodeTest → Environment → List Fault
 test_faults (tests.Instruction (Some l)) env = literal_faults l
@@ -210,7 +184,7 @@ test_faults (tests.Name q) env = name_faults q env
 test_faults _ env = []
 
 unfoldable pub call_faults : QName → ℕ → Environment → List Fault
-call_faults q count env = name_faults q env ++ fault_if (not (is_function env.bindings q.name count)) (fault q.span.from 7 (codes "XPST0017"))
+call_faults q count env = name_faults q env ++ fault_if (not (is_function env.bindings q.name count)) (fault q.span.from 7 XPST0017)
 
 -- ---- what parts mean: their faults, where they stand
 
@@ -338,7 +312,7 @@ in_expression (Expr-F.Unary span is_negative operand) = operand
 in_expression (Expr-F.Root span) = nothing
 in_expression (Expr-F.Path span start first others) = many first others
 in_expression (Expr-F.Filter span head predicates) = many head predicates
-in_expression (Expr-F.AxisStep span axis test) = test_faults test
+in_expression (Expr-F.AxisStep span axis test tested) = test_faults test
 in_expression (Expr-F.Number span text) = λ env. number_faults span text
 in_expression (Expr-F.String span literal) = λ env. literal_faults literal
 in_expression (Expr-F.Variable variable) = variable_faults variable
@@ -350,7 +324,7 @@ in_expression (Expr-F.DirectInstruction span target text) = nothing
 in_expression (Expr-F.Computed span kind name body) = computed name body
 in_expression (Expr-F.ComputedByValue span kind name scope body) = computed_by_value name body
 in_expression (Expr-F.ComputedUnnamed span kind body) = body
-in_expression (Expr-F.Call span name arguments) = call name arguments
+in_expression (Expr-F.Call span name arguments function) = call name arguments
 
 -- a source is valued before its variables are bound
 unfoldable pub for_faults : Variable → Option Variable → Meaning → Meaning
@@ -431,11 +405,11 @@ is_reserved prefix uri = is_reserved_prefix prefix || is_reserved_uri uri
 -- of a declaration behind others
 unfoldable pub declaration_faults : List Declaration → Declaration → List Fault
 declaration_faults earlier (declarations.Namespace span prefix uri) =
-    fault_if (is_repeated earlier prefix) (fault span.from 1 (codes "XQST0033"))
-    ++ (fault_if (is_reserved prefix uri.text) (fault span.from 1 (codes "XQST0070")) ++ literal_faults uri)
+    fault_if (is_repeated earlier prefix) (fault span.from 1 XQST0033)
+    ++ (fault_if (is_reserved prefix uri.text) (fault span.from 1 XQST0070) ++ literal_faults uri)
 declaration_faults earlier (declarations.DefaultElement span uri) =
-    fault_if (list_any is_default earlier) (fault span.from 1 (codes "XQST0066"))
-    ++ (fault_if (is_reserved_uri uri.text) (fault span.from 1 (codes "XQST0070")) ++ literal_faults uri)
+    fault_if (list_any is_default earlier) (fault span.from 1 XQST0066)
+    ++ (fault_if (is_reserved_uri uri.text) (fault span.from 1 XQST0070) ++ literal_faults uri)
 
 unfoldable pub prolog_faults : List Declaration → List Declaration → List Fault
 prolog_faults earlier [] = []
@@ -453,8 +427,8 @@ prolog_bindings all = predeclared ++ map declared_binding all
 abbrev pub outermost : List Declaration → Environment
 outermost all = record { bindings = prolog_bindings all; variables = [] }
 
-unfoldable pub query_faults : Query → List Fault
+unfoldable pub query_faults : QueryTree → List Fault
 query_faults q = prolog_faults [] q.declarations ++ faults q.body (outermost q.declarations)
 
-abbrev pub first_fault : Query → Option Fault
+abbrev pub first_fault : QueryTree → Option Fault
 first_fault q = least_of None (query_faults q)

@@ -123,7 +123,7 @@ unfoldable pub axis_name : Rule
 axis_name = downward_axis // near_axis // following_axis // reverse_axis
 
 abbrev pub step_on : Axis → NodeTest → ℕ → ℕ → Value
-step_on a t from to = term (exprs.AxisStep (between from to) a t)
+step_on a t from to = term (exprs.AxisStep (between from to) a t None)
 
 -- the axis of a test that stands alone
 abbrev pub default_axis : NodeTest → Axis

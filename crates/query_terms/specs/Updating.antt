@@ -3,7 +3,7 @@ use Rattle.std.specs.Prelude.{Bool, true, false, ◌||◌}
 use Rattle.query_terms.specs.declared.tree.Clause.TheOpen.{Attribute-F, Clause-F, Content-F, Expr-F, Operand-F, OrderKey-F, PathStep-F}
 use Rattle.query_terms.specs.declared.tree.Clause.TheFolds.{fold-Expr}
 use Rattle.query_terms.specs.declared.tree.Expr.{Expr}
-use Rattle.query_terms.specs.declared.tree.Query.{Query}
+use Rattle.query_terms.specs.declared.tree.QueryTree.{QueryTree}
 use Rattle.query_terms.specs.Constructors.{Level, some, maybe}
 
 abbrev pub in_expression : Level → Bool
@@ -39,5 +39,5 @@ in_step s = false
 unfoldable pub is_updating : Expr → Bool
 is_updating = fold-Expr Bool Bool Bool Bool Bool Bool Bool in_clause in_content in_expression in_attribute in_operand in_key in_step
 
-abbrev pub is_updating_query : Query → Bool
+abbrev pub is_updating_query : QueryTree → Bool
 is_updating_query q = is_updating q.body

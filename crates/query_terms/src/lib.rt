@@ -2,6 +2,7 @@
 #![tactic(auto)]
 
 mod parts;
+mod query;
 mod stop;
 mod tree;
 
@@ -9,5 +10,8 @@ pub use parts::{
     Binding, Comparator, ComputedKind, Literal, NodeTest, Operator, PathStart, Place, QName,
     Quantifier, Scope, Span, UnnamedKind, Variable,
 };
+pub use query::Query;
 pub use stop::{Nest, Stop, SyntaxFault};
-pub use tree::{Attribute, Clause, Content, Declaration, Expr, Operand, OrderKey, PathStep, Query};
+pub use tree::{
+    Attribute, Clause, Content, Declaration, Expr, Operand, OrderKey, PathStep, QueryTree,
+};

@@ -5,11 +5,11 @@ use crate::parts::{
     Scope, Span, UnnamedKind, Variable,
 };
 use sqlite_items::{Boxed, Items};
-use tree_model::{Axis, Text};
+use tree_model::{Axis, Function, Test, Text};
 
-/// A query: its declarations and its expression (XQuery 1.0, section 2.1).
+/// What a query is made of: its declarations and its expression (XQuery 1.0, section 2.1).
 #[derive(Drop)]
-pub struct Query {
+pub struct QueryTree {
     pub declarations: Items<Declaration>,
     pub body: Boxed<Expr>,
 }
@@ -147,10 +147,12 @@ pub enum Expr {
         head: Boxed<Expr>,
         predicates: Items<Expr>,
     },
+    /// `tested` is the test as walks take it. It is `None` until the names of the query are resolved.
     AxisStep {
         span: Span,
         axis: Axis,
         test: NodeTest,
+        tested: Option<Test>,
     },
     Number {
         span: Span,
@@ -205,10 +207,12 @@ pub enum Expr {
         kind: UnnamedKind,
         body: Boxed<Expr>,
     },
+    /// `function` is the one that is called. It is `None` until the names of the query are resolved.
     Call {
         span: Span,
         name: QName,
         arguments: Items<Expr>,
+        function: Option<Function>,
     },
 }
 

@@ -42,7 +42,7 @@ of_rest (Some t) = Ok (nothing, t)
 -- ---- the table's rule for comments leaves these texts
 
 abbrev piece : ℕ → Text → Outcome
-piece n = fits 0 (λ knot. comments n) comment_piece
+piece n = fits 0 (λ recursion. comments n) comment_piece
 
 abbrev one_piece : Outcome → Outcome → Text → Outcome
 one_piece inner closing u = or_else inner (and_then (unless closing u) (λ x. and_then (any_at x.1) (λ y. Ok (join x.0 y.0, y.1))))

@@ -1,9 +1,9 @@
--- What rules read stays within a set of texts that has each text's rests, and rules read alike where their knots do.
+-- What rules read stays within a set of texts that has each text's rests, and rules read alike where their recursive rules do.
 use Rattle.std.proofs.Common.{◌≡◌, ℕ, zero, suc, ◌-◌, [], ◌∷◌, length, drop, take, nat_eq, Bool, true, false, cond, refl, ap, ◌∙◌, subst, Ok, Err, ◌⊎◌, inl, inr}
 use Rattle.std.specs.List.{starts_with}
 use Rattle.std.specs.Str.{chars}
 use Rattle.std.specs.Char.{len_utf8}
-use Rattle.query_terms.specs.Rule.{Text, Value, nothing, absent, empty, more, code, Outcome, Knot, Rule, word, any, char, seq, alt, many, opt, not, node, read, when, call, and_then, or_else, unless, join, word_at, any_at, first, first_before, passing, turn, turns, listed, fits}
+use Rattle.query_terms.specs.Rule.{Text, Value, nothing, absent, empty, more, code, Outcome, Recursion, Rule, word, any, char, seq, alt, many, opt, not, node, read, when, call, and_then, or_else, unless, join, word_at, any_at, first, first_before, passing, turn, turns, listed, fits}
 use Rattle.query_terms.specs.declared.stop.Stop.TheVariants.{NoMemory, Refused, TooDeep}
 
 abbrev pub HasRests : (Text → Type 0) → Type 0
@@ -69,31 +69,31 @@ module _ (P : Text → Type 0) (rests : HasRests P) where
   unless_keeps (Err TooDeep) s t v p e = absurd (cc)
   unless_keeps (Err NoMemory) s t v p e = absurd (cc)
 
-  module _ (total : ℕ) (knots : Knot → Text → Outcome) (keeps : (k : Knot) → Keeps P (knots k)) where
-    pub fits_keeps : (r : Rule) → Keeps P (fits total knots r)
+  module _ (total : ℕ) (recursions : Recursion → Text → Outcome) (keeps : (k : Recursion) → Keeps P (recursions k)) where
+    pub fits_keeps : (r : Rule) → Keeps P (fits total recursions r)
     fits_keeps (word w) s t v p e = word_keeps w s t v p e
     fits_keeps any s t v p e = any_keeps s t v p e
     fits_keeps (char q) s t v p e = char_keeps q s t v p e
     fits_keeps (seq a b) s t v p e =
-        let x = then_ok (fits total knots a s) _ _ e in
-        let y = then_ok (fits total knots b x.0.1) _ _ x.2 in
+        let x = then_ok (fits total recursions a s) _ _ e in
+        let y = then_ok (fits total recursions b x.0.1) _ _ x.2 in
         kept _ _ y.0.1 t (fits_keeps b x.0.1 y.0.1 y.0.0 (fits_keeps a s x.0.1 x.0.0 p x.1) y.1) y.2
     fits_keeps (alt a b) s t v p e =
-        elim (else_ok (fits total knots a s) (fits total knots b s) (v, t) e) [ inl h ↦ fits_keeps a s t v p h | inr h ↦ fits_keeps b s t v p h ]
+        elim (else_ok (fits total recursions a s) (fits total recursions b s) (v, t) e) [ inl h ↦ fits_keeps a s t v p h | inr h ↦ fits_keeps b s t v p h ]
     fits_keeps (many a) s t v p e =
-        let x = then_ok (turns (suc (length s)) (fits total knots a) empty s) _ _ e in
-        kept _ _ x.0.1 t (turns_keep (fits total knots a) (fits_keeps a) (suc (length s)) empty s x.0.1 x.0.0 p x.1) x.2
+        let x = then_ok (turns (suc (length s)) (fits total recursions a) empty s) _ _ e in
+        kept _ _ x.0.1 t (turns_keep (fits total recursions a) (fits_keeps a) (suc (length s)) empty s x.0.1 x.0.0 p x.1) x.2
     fits_keeps (opt a) s t v p e =
-        elim (else_ok (fits total knots a s) (Ok (absent, s)) (v, t) e) [ inl h ↦ fits_keeps a s t v p h | inr h ↦ kept absent v s t p h ]
-    fits_keeps (not a) s t v p e = unless_keeps (fits total knots a s) s t v p e
+        elim (else_ok (fits total recursions a s) (Ok (absent, s)) (v, t) e) [ inl h ↦ fits_keeps a s t v p h | inr h ↦ kept absent v s t p h ]
+    fits_keeps (not a) s t v p e = unless_keeps (fits total recursions a s) s t v p e
     fits_keeps (node f a) s t v p e =
-        let x = then_ok (fits total knots a s) _ _ e in
+        let x = then_ok (fits total recursions a s) _ _ e in
         kept _ _ x.0.1 t (fits_keeps a s x.0.1 x.0.0 p x.1) x.2
     fits_keeps (read f a) s t v p e =
-        let x = then_ok (fits total knots a s) _ _ e in
+        let x = then_ok (fits total recursions a s) _ _ e in
         kept _ _ x.0.1 t (fits_keeps a s x.0.1 x.0.0 p x.1) x.2
     fits_keeps (when q a) s t v p e =
-        let x = then_ok (fits total knots a s) _ _ e in
+        let x = then_ok (fits total recursions a s) _ _ e in
         kept_if (q x.0.0) x.0.0 v x.0.1 t (fits_keeps a s x.0.1 x.0.0 p x.1) x.2
     fits_keeps (call k) s t v p e = keeps k s t v p e
 
@@ -101,7 +101,7 @@ then_same : (o q : Outcome) (f g : Value × Text → Outcome) → o ≡ q → ((
 then_same (Ok x) q f g e h = h x refl ∙ ap (λ (z : Outcome). and_then z g) e
 then_same (Err stop) q f g e h = ap (λ (z : Outcome). and_then z g) e
 
-module _ (P : Text → Type 0) (rests : HasRests P) (total : ℕ) (knots others : Knot → Text → Outcome) (keeps : (k : Knot) → Keeps P (knots k)) (same : (k : Knot) (s : Text) → P s → knots k s ≡ others k s) where
+module _ (P : Text → Type 0) (rests : HasRests P) (total : ℕ) (recursions others : Recursion → Text → Outcome) (keeps : (k : Recursion) → Keeps P (recursions k)) (same : (k : Recursion) (s : Text) → P s → recursions k s ≡ others k s) where
   turns_agree : (p q : Text → Outcome) → Keeps P p → ((s : Text) → P s → p s ≡ q s) → (n : ℕ) (v : Value) (s : Text) → P s → turns n p v s ≡ turns n q v s
   unfolding turns
   turns_agree p q stays agree zero v s h = refl
@@ -112,15 +112,15 @@ module _ (P : Text → Type 0) (rests : HasRests P) (total : ℕ) (knots others 
     by later (Err TooDeep) is = refl
     by later (Err NoMemory) is = refl
 
-  pub fits_agree : (r : Rule) (s : Text) → P s → fits total knots r s ≡ fits total others r s
+  pub fits_agree : (r : Rule) (s : Text) → P s → fits total recursions r s ≡ fits total others r s
   fits_agree (word w) s h = refl
   fits_agree any s h = refl
   fits_agree (char q) s h = refl
   fits_agree (seq a b) s h = then_same _ _ _ _ (fits_agree a s h)
-      (λ x is. ap (λ (o : Outcome). and_then o (λ y. Ok (join x.0 y.0, y.1))) (fits_agree b x.1 (fits_keeps P rests total knots keeps a s x.1 x.0 h is)))
-  fits_agree (alt a b) s h = ap (λ (o : Outcome). or_else o (fits total knots b s)) (fits_agree a s h) ∙ ap (λ (o : Outcome). or_else (fits total others a s) o) (fits_agree b s h)
+      (λ x is. ap (λ (o : Outcome). and_then o (λ y. Ok (join x.0 y.0, y.1))) (fits_agree b x.1 (fits_keeps P rests total recursions keeps a s x.1 x.0 h is)))
+  fits_agree (alt a b) s h = ap (λ (o : Outcome). or_else o (fits total recursions b s)) (fits_agree a s h) ∙ ap (λ (o : Outcome). or_else (fits total others a s) o) (fits_agree b s h)
   fits_agree (many a) s h = ap (λ (o : Outcome). and_then o listed)
-      (turns_agree (fits total knots a) (fits total others a) (fits_keeps P rests total knots keeps a) (fits_agree a) (suc (length s)) empty s h)
+      (turns_agree (fits total recursions a) (fits total others a) (fits_keeps P rests total recursions keeps a) (fits_agree a) (suc (length s)) empty s h)
   fits_agree (opt a) s h = ap (λ (o : Outcome). or_else o (Ok (absent, s))) (fits_agree a s h)
   fits_agree (not a) s h = ap (λ (o : Outcome). unless o s) (fits_agree a s h)
   fits_agree (node f a) s h = ap (λ (o : Outcome). and_then o (λ x. Ok (f (total - length s) (total - length x.1) x.0, x.1))) (fits_agree a s h)

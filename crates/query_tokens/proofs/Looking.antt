@@ -7,10 +7,10 @@ use Rattle.query_terms.specs.Rule.{Text, nothing, word_at}
 use Rattle.query_tokens.specs.Reads.{looked_up, closed}
 use Rattle.query_tokens.proofs.Keeping.{HasRests, Keeps, then_ok, word_keeps, kept_if}
 
-pub looked_up_keeps : (P : Text → Type 0) → HasRests P → (closings : List ℕ) → Keeps P (looked_up closings)
-looked_up_keeps P rests closings s t v p e =
+pub looked_up_keeps : (P : Text → Type 0) → HasRests P → (comment_ends : List ℕ) → Keeps P (looked_up comment_ends)
+looked_up_keeps P rests comment_ends s t v p e =
     let x = then_ok (word_at (codes "(:") s) _ _ e in
-    by (slice_index closings (length x.0.1)) (word_keeps P rests (codes "(:") s x.0.1 x.0.0 p x.1) x.2
+    by (slice_index comment_ends (length x.0.1)) (word_keeps P rests (codes "(:") s x.0.1 x.0.0 p x.1) x.2
   where
     by : {u : Text} (entry : ℕ) → P u → closed entry u ≡ Ok (v, t) → P t
     by zero p e = absurd (cc)

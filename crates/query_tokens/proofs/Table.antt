@@ -9,8 +9,8 @@ use Rattle.std.proofs.Math.Seq.{get_or-append_seam}
 use Rattle.std.proofs.Math.ListN.{get_or-append}
 use Rattle.query_terms.specs.Rule.{Text, nothing, Outcome, and_then, word_at}
 use Rattle.query_terms.specs.declared.stop.Stop.TheVariants.{Refused}
-use Rattle.query_tokens.specs.Reads.{looked_up, closed, AreClosings, IsRestOf}
-use Rattle.query_tokens.specs.Closings.{behind_inner, closing_at, closing_before, closings_below}
+use Rattle.query_tokens.specs.Reads.{looked_up, closed, AreCommentEnds, IsRestOf}
+use Rattle.query_tokens.specs.CommentEnds.{behind_inner, comment_end_at, comment_end_before, comment_ends_below}
 use Rattle.query_tokens.proofs.Comments.{opens, closes, past_piece, inside, behind_comment, of_rest, comments_are}
 use Rattle.query_tokens.proofs.Insides.{shorter, outside, outside_ends, outside_none, outside_step, comment_outside}
 use Rattle.query_tokens.proofs.Words.{drop_back}
@@ -66,7 +66,7 @@ pub outside_two : (c d : ℕ) (s : Text) → outside (c ∷ d ∷ s)
 outside_two c d s = outside_step c (d ∷ s) ∙ ap (past_piece outside (c ∷ d ∷ s)) (comment_outside c d s ∙ ap (λ (b : Bool). cond b (outside s) None) (opens_is c d s))
 
 module _ (text : Text) (entries : List ℕ) (n : ℕ) (right : IsRight text entries n) where
-  entry_right : (c d : ℕ) (s : Text) → IsRestOf text (c ∷ d ∷ s) → length (c ∷ d ∷ s) ≤ n → closing_at c (d ∷ s) entries ≡ mark (past_piece outside (c ∷ d ∷ s) (if c == 40 && d == 58 then outside s else None))
+  entry_right : (c d : ℕ) (s : Text) → IsRestOf text (c ∷ d ∷ s) → length (c ∷ d ∷ s) ≤ n → comment_end_at c (d ∷ s) entries ≡ mark (past_piece outside (c ∷ d ∷ s) (if c == 40 && d == 58 then outside s else None))
   entry_right c d s rest within = by (c == 58 && d == 41) (c == 40 && d == 58) refl refl where
     rest_one : IsRestOf text (d ∷ s)
     rest_one = rest_rests text 1 (c ∷ d ∷ s) rest
@@ -95,37 +95,37 @@ module _ (text : Text) (entries : List ℕ) (n : ℕ) (right : IsRight text entr
     by false true x y = ap (λ (k : ℕ). behind_inner entries k (d ∷ s)) (right s rest_two (omega (arith, within))) ∙ inner x (outside s) refl
     by false false x y = one ∙ sym (ap mark (here false x))
 
-  pub closing_right : (u : Text) → IsRestOf text u → length u ≤ n → closing_before u entries ≡ mark (outside u)
-  closing_right [] rest within = sym (ap mark outside_none)
-  closing_right (c ∷ []) rest within = right [] (rest_rests text 1 (c ∷ []) rest) (omega (arith, within)) ∙ sym (ap mark (outside_one c))
-  closing_right (c ∷ d ∷ s) rest within = entry_right c d s rest within ∙ sym (ap mark (outside_two c d s))
+  pub comment_end_right : (u : Text) → IsRestOf text u → length u ≤ n → comment_end_before u entries ≡ mark (outside u)
+  comment_end_right [] rest within = sym (ap mark outside_none)
+  comment_end_right (c ∷ []) rest within = right [] (rest_rests text 1 (c ∷ []) rest) (omega (arith, within)) ∙ sym (ap mark (outside_one c))
+  comment_end_right (c ∷ d ∷ s) rest within = entry_right c d s rest within ∙ sym (ap mark (outside_two c d s))
 
 -- ---- all entries
 
-pub table_len : (text : Text) (n : ℕ) → length (closings_below text n) ≡ n
+pub table_len : (text : Text) (n : ℕ) → length (comment_ends_below text n) ≡ n
 table_len text zero = refl
 table_len text (suc n) =
     let e = table_len text n in
-    omega (arith, e, length-append (closings_below text n) (closing_before (drop (length text - n) text) (closings_below text n) ∷ []))
+    omega (arith, e, length-append (comment_ends_below text n) (comment_end_before (drop (length text - n) text) (comment_ends_below text n) ∷ []))
 
-pub table_right : (text : Text) (n : ℕ) → n ≤ length text + 1 → IsRight text (closings_below text n) n
+pub table_right : (text : Text) (n : ℕ) → n ≤ length text + 1 → IsRight text (comment_ends_below text n) n
 table_right text zero fits s rest within = absurd (omega (arith, within))
 table_right text (suc n) fits s rest within =
     by (table_right text n (omega arith)) (cases_lt (length s) n)
   where
     entries : List ℕ
-    entries = closings_below text n
+    entries = comment_ends_below text n
 
-    by : IsRight text (closings_below text n) n → (length s < n) ⊎ (n ≤ length s) → slice_index (closings_below text (suc n)) (length s) ≡ mark (outside s)
-    by right (inl less) = get_or-append (closings_below text n) _ 0 (length s) (omega (arith, less, table_len text n)) ∙ right s rest less
+    by : IsRight text (comment_ends_below text n) n → (length s < n) ⊎ (n ≤ length s) → slice_index (comment_ends_below text (suc n)) (length s) ≡ mark (outside s)
+    by right (inl less) = get_or-append (comment_ends_below text n) _ 0 (length s) (omega (arith, less, table_len text n)) ∙ right s rest less
     by right (inr more) =
         let same : length s ≡ n = omega (arith, within, more) in
         let begins : drop (length text - n) text ≡ s =
         ap (λ (k : ℕ). drop (length text - k) text) (sym same) ∙ ap (λ (l : Text). drop (length text - length l) text) rest.1 ∙ drop_back rest.0 text ∙ sym rest.1 in
-        ap (λ (k : ℕ). get_or (closings_below text (suc n)) k 0) (same ∙ sym (table_len text n))
-        ∙ get_or-append_seam (closings_below text n) (closing_before (drop (length text - n) text) (closings_below text n)) [] 0
-        ∙ ap (λ (l : Text). closing_before l (closings_below text n)) begins
-        ∙ closing_right text (closings_below text n) n right s rest (omega (arith, same))
+        ap (λ (k : ℕ). get_or (comment_ends_below text (suc n)) k 0) (same ∙ sym (table_len text n))
+        ∙ get_or-append_seam (comment_ends_below text n) (comment_end_before (drop (length text - n) text) (comment_ends_below text n)) [] 0
+        ∙ ap (λ (l : Text). comment_end_before l (comment_ends_below text n)) begins
+        ∙ comment_end_right text (comment_ends_below text n) n right s rest (omega (arith, same))
 
 -- ---- comments by the table
 
@@ -154,10 +154,10 @@ table_reads entries (c ∷ d ∷ u) right = by (opens (c ∷ d ∷ u)) ∙ sym (
   by true = ap (λ (k : ℕ). closed k u) (right u (2, refl)) ∙ closed_right u (outside u) refl
   by false = refl
 
-pub filled_right : (text : Text) → AreClosings text (closings_below text (length text + 1))
+pub filled_right : (text : Text) → AreCommentEnds text (comment_ends_below text (length text + 1))
 filled_right text n =
     let rest : IsRestOf text (drop n text) = (n, refl) in
-    table_reads (closings_below text (length text + 1)) (drop n text) (λ u r.
+    table_reads (comment_ends_below text (length text + 1)) (drop n text) (λ u r.
     let within : length u < length text + 1 = omega (arith, ap length r.1, length-drop r.0 (drop n text), length-drop n text) in
     table_right text (length text + 1) (omega arith) u (rest_of_rest text (drop n text) u rest r) within)
     ∙ sym (comments_are (length (drop n text)) (drop n text))
@@ -178,7 +178,7 @@ never_opens text lacks n = by (drop n text) refl where
         let size : length (drop n text) ≡ length (c ∷ d ∷ u) = ap length is in
         absurd (lacks n (omega (arith, length-drop n text)) u (is ∙ word))
 
-pub none_right : (text : Text) → ((i : ℕ) → i ≤ length text → LacksTextAt (codes "(:") text i) → AreClosings text []
+pub none_right : (text : Text) → ((i : ℕ) → i ≤ length text → LacksTextAt (codes "(:") text i) → AreCommentEnds text []
 unfolding word_at behind_comment
 none_right text lacks n = by (drop n text) (never_opens text lacks n) ∙ sym (comments_are (length (drop n text)) (drop n text)) where
   by : (s : Text) → opens s ≡ false → looked_up [] s ≡ of_rest (behind_comment (length s) s)

@@ -7,7 +7,7 @@ use Rattle.query_terms.specs.declared.stop.Stop.{Stop}
 use Rattle.query_terms.specs.declared.stop.Stop.TheVariants.{Refused, TooDeep, NoMemory}
 use Rattle.query_terms.specs.declared.tree.Expr.{Expr}
 use Rattle.query_terms.specs.Rule.{Text, Value, nothing, list, term, call, nested, Outcome}
-use Rattle.query_tokens.specs.declared.source.Source.{Source}
+use Rattle.query_tokens.specs.declared.source.QuerySource.{QuerySource}
 use Rattle.query_tokens.specs.Reads.{at}
 
 -- the answer stands for what the rule reads, but that memory may be wanting
@@ -32,6 +32,6 @@ Tried r (Ok None) = r ≡ Err Refused
 Tried r (Err e) = (r ≡ Err e) × (e ≢ NoMemory → e ≡ TooDeep)
 
 -- a function that reads each nest at a source as its rule says
-pub record Nests (source : Source) (pre : Global → Source → Nest → Bor Text → Type 0) (post : Global → Source → Nest → Bor Text → Result (Expr × Bor Text) Stop → Type 0) : Type 0 where
+pub record Nests (source : QuerySource) (pre : Global → QuerySource → Nest → Bor Text → Type 0) (post : Global → QuerySource → Nest → Bor Text → Result (Expr × Bor Text) Stop → Type 0) : Type 0 where
   pub callable : (alloc : Global) (nest : Nest) (s : Bor Text) → pre alloc source nest s
   pub reads : (alloc : Global) (nest : Nest) (s : Bor Text) (r : Result (Expr × Bor Text) Stop) → post alloc source nest s r → Opens term (at source (call (nested nest)) s.now) r

@@ -1,3 +1,3 @@
 pub mod Reads
 pub mod Descends
-pub mod Closings
+pub mod CommentEnds

@@ -11,10 +11,10 @@ use Rattle.query_terms.specs.declared.parts.NodeTest.{NodeTest}
 use Rattle.query_terms.specs.declared.parts.NodeTest.TheVariants as tests
 use Rattle.query_terms.specs.declared.tree.Expr.{Expr}
 use Rattle.query_terms.specs.declared.tree.Expr.TheVariants as exprs
-use Rattle.query_terms.specs.Rule.{Text, Value, nothing, absent, code, bad_code, text, name, literal, variable, test, term, Outcome, Knot, Rule, many, and_then, word_at, fits}
+use Rattle.query_terms.specs.Rule.{Text, Value, nothing, absent, code, bad_code, text, name, literal, variable, test, term, Outcome, Recursion, Rule, many, and_then, word_at, fits}
 use Rattle.query_terms.specs.Lexis.{any_comment, items_of, spelled, first_bad, string_char}
-use Rattle.query_terms.specs.Parse.{knots, opened}
-use Rattle.query_tokens.specs.declared.source.Source.{Source}
+use Rattle.query_terms.specs.Parse.{recursions, opened}
+use Rattle.query_tokens.specs.declared.source.QuerySource.{QuerySource}
 use Rattle.query_tokens.specs.declared.class.CharClass.{CharClass}
 use Rattle.query_tokens.specs.declared.class.CharClass.TheVariants as class
 use Rattle.query_tokens.specs.declared.written.Quote.{Quote}
@@ -43,11 +43,11 @@ closed (suc left) s = behind left s
 
 -- a comment by a table that has, at each length of a text that begins inside a comment, how many bytes stand behind the end of the comment, and one more
 abbrev pub looked_up : List ℕ → Text → Outcome
-looked_up closings s = and_then (word_at (codes "(:") s) (λ x. closed (slice_index closings (length x.1)) x.1)
+looked_up comment_ends s = and_then (word_at (codes "(:") s) (λ x. closed (slice_index comment_ends (length x.1)) x.1)
 
 -- the table is right for each part of the query that goes to its end
-abbrev pub AreClosings : Text → List ℕ → Type 0
-AreClosings query closings = (n : ℕ) → looked_up closings (drop n query) ≡ any_comment (drop n query)
+abbrev pub AreCommentEnds : Text → List ℕ → Type 0
+AreCommentEnds query comment_ends = (n : ℕ) → looked_up comment_ends (drop n query) ≡ any_comment (drop n query)
 
 -- a text that goes to the end of another
 abbrev pub IsRestOf : Text → Text → Type 0
@@ -55,12 +55,12 @@ IsRestOf s t = (n : ℕ) × (t ≡ drop n s)
 
 -- ---- what a function ensures
 
--- how the knots read in a query, where so many more nests may be opened as the source says
-unfoldable pub reading : Source → Knot → Text → Outcome
-reading source = knots (looked_up source.closings.now) (opened (length source.query.now) (looked_up source.closings.now) source.room)
+-- how the recursive rules read in a query, where so many more nests may be opened as the source says
+unfoldable pub reading : QuerySource → Recursion → Text → Outcome
+reading source = recursions (looked_up source.comment_ends.now) (opened (length source.query.now) (looked_up source.comment_ends.now) source.room)
 
 -- what a rule reads in a query, at a text
-abbrev pub at : Source → Rule → Text → Outcome
+abbrev pub at : QuerySource → Rule → Text → Outcome
 at source r s = fits (length source.query.now) (reading source) r s
 
 -- a function whose answers stand for such values
@@ -124,23 +124,23 @@ body_of (Ok x) = literal_in (items_of x.0)
 body_of (Err stop) = record { text = []; bad_reference = None }
 
 -- a string, of which the text behind its opening quote is known
-abbrev pub quoted_literal : Source → Quote → Text → Literal
+abbrev pub quoted_literal : QuerySource → Quote → Text → Literal
 quoted_literal source quote s = body_of (at source (many (string_char (quote_code quote))) s)
 
-abbrev pub string_written : Source → WrittenString → Literal
+abbrev pub string_written : QuerySource → WrittenString → Literal
 string_written source w = quoted_literal source w.quote w.body.now
 
-abbrev pub as_literal : Source → WrittenString → Value
+abbrev pub as_literal : QuerySource → WrittenString → Value
 as_literal source w = literal (string_written source w)
 
-abbrev pub target_written : Source → Target → Literal
+abbrev pub target_written : QuerySource → Target → Literal
 target_written source (targets.Name s) = record { text = s.now; bad_reference = None }
 target_written source (targets.Quoted w) = string_written source w
 
-abbrev pub as_target : Source → Target → Value
+abbrev pub as_target : QuerySource → Target → Value
 as_target source t = literal (target_written source t)
 
-abbrev pub as_maybe_target : Source → Option Target → Value
+abbrev pub as_maybe_target : QuerySource → Option Target → Value
 as_maybe_target source None = absent
 as_maybe_target source (Some t) = as_target source t
 
@@ -152,7 +152,7 @@ abbrev pub as_maybe_text : Option (Bor Text) → Value
 as_maybe_text None = absent
 as_maybe_text (Some s) = text s.now
 
-abbrev pub test_written : Source → WrittenTest → NodeTest
+abbrev pub test_written : QuerySource → WrittenTest → NodeTest
 test_written source written.Node = tests.Node
 test_written source written.Text = tests.Text
 test_written source written.Comment = tests.Comment
@@ -165,11 +165,11 @@ test_written source (written.LocalName s) = tests.LocalName s.now
 test_written source (written.Namespace w) = tests.Namespace (name_written w)
 test_written source (written.Name w) = tests.Name (name_written w)
 
-abbrev pub as_test : Source → WrittenTest → Value
+abbrev pub as_test : QuerySource → WrittenTest → Value
 as_test source t = test (test_written source t)
 
-abbrev pub step_written : Source → WrittenStep → Expr
-step_written source s = exprs.AxisStep s.span s.axis (test_written source s.test)
+abbrev pub step_written : QuerySource → WrittenStep → Expr
+step_written source s = exprs.AxisStep s.span s.axis (test_written source s.test) None
 
-abbrev pub as_step : Source → WrittenStep → Value
+abbrev pub as_step : QuerySource → WrittenStep → Value
 as_step source s = term (step_written source s)

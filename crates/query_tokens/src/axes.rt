@@ -4,13 +4,13 @@ ghost use Rattle.query_terms.specs.Rule.{axis};
 ghost use Rattle.query_terms.specs.Tests as spec;
 ghost use Rattle.query_tokens.specs.Reads.{at, as_step, test_written, Reads};
 
-use crate::source::Source;
+use crate::source::QuerySource;
 use crate::written::{WrittenStep, WrittenTest};
 use tree_model::Axis;
 
 // The axis of a test that stands alone.
 fn default_axis(test: WrittenTest<'_>) -> Axis
-    ensures { (source : Source) → result ≡ spec.default_axis (test_written source test.entry) }
+    ensures { (source : QuerySource) → result ≡ spec.default_axis (test_written source test.entry) }
 {
     match test {
         WrittenTest::Attribute(_) => Axis::Attribute,
@@ -18,7 +18,7 @@ fn default_axis(test: WrittenTest<'_>) -> Axis
     }
 }
 
-impl<'a> Source<'a> {
+impl<'a> QuerySource<'a> {
     #[tactic(auto, unfolding(query_terms::specs::Tests::downward_axis))]
     fn downward_axis(&self, rest: &'a str) -> Option<(Axis, &'a str)>
         ensures { Reads axis (at self.now spec.downward_axis rest.now) result }

@@ -6,10 +6,10 @@ ghost use Rattle.query_terms.specs.Markup as spec;
 ghost use Rattle.query_tokens.specs.Reads.{at, quote_code, as_char, Reads};
 
 use crate::class::first;
-use crate::source::Source;
+use crate::source::QuerySource;
 use crate::written::{Quote, WrittenChar};
 
-impl<'a> Source<'a> {
+impl<'a> QuerySource<'a> {
     // Any character but an end of line that begins with CR.
     fn any_char(&self, rest: &'a str) -> Option<(WrittenChar, &'a str)>
         ensures { Reads as_char (at self.now (char (λ c. true)) rest.now) result }

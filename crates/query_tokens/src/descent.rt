@@ -6,7 +6,7 @@ ghost use Rattle.query_terms.specs.Markup as spec;
 ghost use Rattle.query_tokens.specs.Reads.{at};
 ghost use Rattle.query_tokens.specs.Descends.{Nests, Opens, Skips, Gathers, Tried};
 
-use crate::source::Source;
+use crate::source::QuerySource;
 use query_terms::{Expr, Nest, Span, Stop};
 use sqlite_items::{Boxed, Items};
 use std::alloc::Global;
@@ -48,14 +48,14 @@ fn comma(
 #[derive(Clone, Copy)]
 pub struct Descent<'a, F> {
     pub alloc: Global,
-    pub source: Source<'a>,
+    pub source: QuerySource<'a>,
     pub nested: F,
 }
 
-impl<'a, F: Fn(Global, Source<'a>, Nest, &'a str) -> Result<(Boxed<Expr>, &'a str), Stop>> Descent<
+impl<
     'a,
-    F,
-> {
+    F: Fn(Global, QuerySource<'a>, Nest, &'a str) -> Result<(Boxed<Expr>, &'a str), Stop>,
+> Descent<'a, F> {
     /// An expression without a comma.
     pub fn single(&self, rest: &'a str) -> Result<(Boxed<Expr>, &'a str), Stop>
         requires { Nests self.now.source (F.pre self.now.nested) (F.post self.now.nested) }

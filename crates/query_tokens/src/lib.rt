@@ -4,7 +4,7 @@
 mod axes;
 mod characters;
 mod class;
-mod closings;
+mod comment_table;
 mod descent;
 mod names;
 mod node_tests;
@@ -14,9 +14,9 @@ mod strings;
 mod written;
 
 pub use class::{CharClass, first};
-pub use closings::comment_ends;
+pub use comment_table::comment_ends;
 pub use descent::{Descent, tried};
-pub use source::{Source, front};
+pub use source::{QuerySource, front};
 pub use written::{
     Quote, Target, WrittenChar, WrittenName, WrittenNumber, WrittenStep, WrittenString,
     WrittenTest, WrittenVariable,

@@ -5,10 +5,10 @@ ghost use Rattle.query_terms.specs.Lexis as spec;
 ghost use Rattle.query_tokens.specs.Reads.{at, shown, as_name, as_variable, as_number, Reads, Passes};
 
 use crate::class::CharClass;
-use crate::source::{Source, front};
+use crate::source::{QuerySource, front};
 use crate::written::{WrittenName, WrittenNumber, WrittenVariable};
 
-impl<'a> Source<'a> {
+impl<'a> QuerySource<'a> {
     /// A name without a colon (Namespaces in XML 1.0, section 4).
     pub fn ncname(&self, rest: &'a str) -> Option<(&'a str, &'a str)>
         ensures { Reads shown (at self.now spec.ncname rest.now) result }

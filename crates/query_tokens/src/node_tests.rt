@@ -4,10 +4,10 @@ ghost use Rattle.query_terms.specs.Rule.{opt};
 ghost use Rattle.query_terms.specs.Tests as spec;
 ghost use Rattle.query_tokens.specs.Reads.{at, as_target, as_maybe_target, as_maybe_name, as_test, Reads};
 
-use crate::source::Source;
+use crate::source::QuerySource;
 use crate::written::{Target, WrittenName, WrittenTest};
 
-impl<'a> Source<'a> {
+impl<'a> QuerySource<'a> {
     #[tactic(auto, unfolding(query_terms::specs::Tests::bare_kind_name))]
     fn bare_kind_name(&self, rest: &'a str) -> Option<(WrittenTest<'a>, &'a str)>
         ensures { Reads (as_test self.now) (at self.now spec.bare_kind_name rest.now) result }

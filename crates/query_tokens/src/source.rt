@@ -8,16 +8,16 @@ ghost use Rattle.query_terms.specs.Lexis as spec;
 ghost use Rattle.query_tokens.specs.Reads.{at, in_class, shown, behind, closed, IsRestOf, Reads, Passes};
 
 use crate::class::{CharClass, first};
-use crate::closings::entry;
+use crate::comment_table::entry;
 use query_terms::Span;
 
 /// A query, how many more nests may be opened at the place where it is read, and where its comments end: at each length of a text that begins inside a comment and goes to the query's end,
 /// one more than the length of what stands behind the comment, and 0 where it has no end. Where the query has no `(:`,
 /// there need be no entries.
 #[derive(Clone, Copy)]
-pub struct Source<'a> {
+pub struct QuerySource<'a> {
     pub query: &'a str,
-    pub closings: &'a [usize],
+    pub comment_ends: &'a [usize],
     pub room: usize,
 }
 
@@ -34,13 +34,13 @@ fn behind_parenthesis(text: &str, left: usize) -> Option<&str>
     }
 }
 
-fn behind_closing(text: &str, closing: usize) -> Option<&str>
-    ensures { Passes (closed closing text.now) result }
+fn behind_comment(text: &str, end: usize) -> Option<&str>
+    ensures { Passes (closed end text.now) result }
 {
-    if closing == 0 {
+    if end == 0 {
         return None;
     }
-    behind_parenthesis(text, closing - 1)
+    behind_parenthesis(text, end - 1)
 }
 
 // Whether a word begins a text. Most words differ from it in the first byte.
@@ -62,7 +62,7 @@ pub fn front<'a>(rest: &'a str, after: &'a str) -> &'a str
     found
 }
 
-impl<'a> Source<'a> {
+impl<'a> QuerySource<'a> {
     /// Where a text begins that goes to the query's end.
     pub fn place(&self, rest: &'a str) -> usize
         ensures { result ≡ length self.now.query.now - length rest.now }
@@ -149,7 +149,7 @@ impl<'a> Source<'a> {
         ensures { Passes (at self.now (call comment) rest.now) result }
     {
         let inner = self.word(rest, "(:")?;
-        behind_closing(inner, entry(self.closings, inner.len()))
+        behind_comment(inner, entry(self.comment_ends, inner.len()))
     }
 
     #[tactic(auto, unfolding(query_terms::specs::Lexis::blank))]

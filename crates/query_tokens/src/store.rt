@@ -5,7 +5,7 @@ ghost use Rattle.std.specs.String.{string_bytes};
 ghost use Rattle.query_terms.specs.declared.parts.Literal.{Literal as LiteralOf};
 ghost use Rattle.query_tokens.specs.Reads.{at, name_written, variable_written, number_written, quoted_literal, string_written, target_written, test_written, step_written};
 
-use crate::source::Source;
+use crate::source::QuerySource;
 use crate::written::{
     Quote, Target, WrittenName, WrittenNumber, WrittenStep, WrittenString, WrittenTest,
     WrittenVariable,
@@ -63,7 +63,7 @@ fn stored_name(alloc: Global, name: Option<WrittenName<'_>>) -> Result<Option<QN
     }
 }
 
-impl<'a> Source<'a> {
+impl<'a> QuerySource<'a> {
     // The characters of a string and the place of the first reference among them that names none.
     fn spelled(
         &self,
@@ -156,6 +156,7 @@ impl<'a> Source<'a> {
             span: step.span,
             axis: step.axis,
             test: self.store_test(alloc, step.test)?,
+            tested: None,
         })
     }
 }

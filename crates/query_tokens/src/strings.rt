@@ -6,11 +6,11 @@ ghost use Rattle.query_terms.specs.Lexis as spec;
 ghost use Rattle.query_tokens.specs.Reads.{at, quote_code, as_char, as_literal, Reads};
 
 use crate::class::{CharClass, first};
-use crate::source::Source;
+use crate::source::QuerySource;
 use crate::written::{Quote, WrittenChar, WrittenString};
 use xml_pieces::{char_of, is_char_number};
 
-impl<'a> Source<'a> {
+impl<'a> QuerySource<'a> {
     #[tactic(auto, unfolding(query_terms::specs::Lexis::entity))]
     fn entity(&self, rest: &'a str) -> Option<(WrittenChar, &'a str)>
         ensures { Reads as_char (at self.now spec.entity rest.now) result }

@@ -1,14 +1,14 @@
 // Strings with references to no character, and comments however deep.
-use crate::{Source, comment_ends};
+use crate::{QuerySource, comment_ends};
 use std::alloc::Global;
 use std::process::Abort;
 use std::rt::HostRuntime;
 use std::test::Fail;
 
-fn source<'a>(query: &'a str, closings: &'a [usize]) -> Source<'a> {
-    Source {
+fn source<'a>(query: &'a str, comment_ends: &'a [usize]) -> QuerySource<'a> {
+    QuerySource {
         query,
-        closings,
+        comment_ends,
         room: 200,
     }
 }
@@ -43,8 +43,8 @@ fn deep_comments_end(rt: HostRuntime) -> Result<(), Fail> {
     let opened = repeated(alloc, "(:", 100_000)?;
     let closed = repeated(alloc, ":)", 100_000)?;
     let nested = format!(in alloc; "{opened}{closed}a")?;
-    let closings = comment_ends(alloc, nested.as_str())?;
-    let source = source(nested.as_str(), closings.as_slice());
+    let ends = comment_ends(alloc, nested.as_str())?;
+    let source = source(nested.as_str(), ends.as_slice());
     assert_eq!(rt; source.blanks(nested.as_str()), "a");
     Ok(())
 }

@@ -6,7 +6,7 @@ use Rattle.std.proofs.lemmas.Bool.{and_from, or_left, true≢false, false≢true
 use Rattle.std.proofs.lemmas.List.Folds.{list_all-append}
 use Rattle.tree_model.specs.Forest.{Forest, none, tree, walk, join}
 use Rattle.tree_model.specs.Labels.{Label}
-use Rattle.tree_model.specs.Sound.{is_good_label, is_elem, is_text, AllTops, begins_no_text}
+use Rattle.tree_model.specs.Sound.{is_good_label, is_elem, is_text, AllRoots, begins_no_text}
 use Rattle.tree_model.specs.XmlSource.{Content, done, element, empty, part, cdata, comm, pi}
 use Rattle.tree_model.specs.XmlGood.{IsRoot, IsMisc}
 use Rattle.tree_model.specs.XmlMeaning.{Scope, comm_label, pi_label, content_trees, misc_trees}
@@ -84,7 +84,7 @@ bare_node Attr id name value scope attrs kids rest m h = absurd (false≢true m)
 bare_node Comm id name value scope attrs kids rest m h = h
 bare_node Pi id name value scope attrs kids rest m h = bare_pi _ value (content_cut scope rest) h
 
-pub bare_cut : (scope : Scope) (f : Forest Label) → AllTops is_misc f → IsBare (content_cut scope f)
+pub bare_cut : (scope : Scope) (f : Forest Label) → AllRoots is_misc f → IsBare (content_cut scope f)
 bare_cut scope none h = tt
 bare_cut scope (tree label attrs kids rest) h = bare_node label.kind label.id label.name label.value scope attrs kids rest h.0 (bare_cut scope rest h.1)
 
@@ -111,9 +111,9 @@ pub record IsSplit (scope : Scope) (f : Forest Label) : Type 0 where
   pub kids : Forest Label
   pub last : Forest Label
   pub is : f ≡ join first (tree label attrs kids last)
-  pub first_misc : AllTops is_misc first
+  pub first_misc : AllRoots is_misc first
   pub root_elem : is_elem label ≡ true
-  pub last_misc : AllTops is_misc last
+  pub last_misc : AllRoots is_misc last
   pub first_good : IsPrintable scope first
   pub root_good : IsPrintable scope (tree label attrs kids none)
   pub last_good : IsPrintable scope last
@@ -128,7 +128,7 @@ printable_none scope = record { sound = sound_none; read = refl; none_added = tt
 printable_with : (scope : Scope) (label : Label) (attrs : List Label) (kids rest other : Forest Label) → AreNodeParts scope label attrs kids rest → is_no_text label ≡ true → IsPrintable scope other → IsPrintable scope (tree label attrs kids other)
 printable_with scope label attrs kids rest other p t h = record {
   sound = record {
-    tops = (p.child, h.sound.tops);
+    root_nodes = (p.child, h.sound.root_nodes);
     places = (p.owner, p.fit, p.inner.sound.places, h.sound.places);
     nodes = and_from _ _ p.good (all_joined is_good_label attrs (walk kids ++ walk other) p.attrs_good (all_joined is_good_label (walk kids) (walk other) p.inner.sound.nodes h.sound.nodes));
     texts = and_from _ _ (and_from _ _ (or_left (not (is_text label)) (begins_no_text other) t) p.inner.sound.texts) h.sound.texts;
@@ -137,15 +137,15 @@ printable_with scope label attrs kids rest other p t h = record {
   none_added = (p.none_added, p.inner.none_added, h.none_added);
 }
 
-all_misc : (f : Forest Label) → AllTops is_child f → AllTops is_no_text f → element_count f ≡ 0 → AllTops is_misc f
+all_misc : (f : Forest Label) → AllRoots is_child f → AllRoots is_no_text f → element_count f ≡ 0 → AllRoots is_misc f
 all_misc none c t e = tt
 all_misc (tree label attrs kids rest) c t e = by (is_elem label) refl e (all_misc rest c.1 t.1)
   where
-    by : (elem : Bool) → is_elem label ≡ elem → cond elem 1 0 + element_count rest ≡ 0 → (element_count rest ≡ 0 → AllTops is_misc rest) → (is_misc label ≡ true) × AllTops is_misc rest
+    by : (elem : Bool) → is_elem label ≡ elem → cond elem 1 0 + element_count rest ≡ 0 → (element_count rest ≡ 0 → AllRoots is_misc rest) → (is_misc label ≡ true) × AllRoots is_misc rest
     by true is k more = absurd (omega arith)
     by false is k more = (misc_label label c.0 t.0 is, more (omega arith))
 
-pub split_at_root : (scope : Scope) (f : Forest Label) → IsPrintable scope f → AllTops is_no_text f → element_count f ≡ 1 → IsSplit scope f
+pub split_at_root : (scope : Scope) (f : Forest Label) → IsPrintable scope f → AllRoots is_no_text f → element_count f ≡ 1 → IsSplit scope f
 split_at_root scope none h t e = absurd (omega arith)
 split_at_root scope (tree label attrs kids rest) h t e =
     let p = node_parts scope label attrs kids rest h in
@@ -161,7 +161,7 @@ split_at_root scope (tree label attrs kids rest) h t e =
       is = refl;
       first_misc = tt;
       root_elem = is;
-      last_misc = all_misc rest p.after.sound.tops t.1 (omega arith);
+      last_misc = all_misc rest p.after.sound.root_nodes t.1 (omega arith);
       first_good = printable_none scope;
       root_good = printable_with scope label attrs kids rest none p t.0 (printable_none scope);
       last_good = p.after;

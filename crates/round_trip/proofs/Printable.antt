@@ -6,7 +6,7 @@ use Rattle.std.proofs.lemmas.List.{length-map}
 use Rattle.std.proofs.lemmas.List.Folds.{list_all-append}
 use Rattle.tree_model.specs.Forest.{Forest, none, tree, walk, count, join}
 use Rattle.tree_model.specs.Labels.{Label, with_id, local_name, numbered_attrs, numbered}
-use Rattle.tree_model.specs.Sound.{is_empty, has_no_name, is_good_label, is_doc, is_elem, is_text, is_attr, fits, owns, are_distinct_names, binds_well, AllTops, begins_no_text, are_texts_apart}
+use Rattle.tree_model.specs.Sound.{is_empty, has_no_name, is_good_label, is_doc, is_elem, is_text, is_attr, fits, owns, are_distinct_names, binds_well, AllRoots, begins_no_text, are_texts_apart}
 use Rattle.tree_model.specs.XmlMeaning.{Scope}
 use Rattle.tree_model.specs.Printing.{added, scope_in}
 use Rattle.tree_model.specs.PrintedReads.{is_read_again, AddNone}
@@ -62,7 +62,7 @@ pub record AreNodeParts (scope : Scope) (label : Label) (attrs : List Label) (ki
   pub read : is_read_again label ≡ true
   pub attrs_read : list_all is_read_again attrs ≡ true
   pub none_added : is_elem label ≡ true → added scope label attrs ≡ []
-  pub fit : AllTops (fits label) kids
+  pub fit : AllRoots (fits label) kids
   pub apart : (not (is_text label) || begins_no_text rest) ≡ true
   pub inner : IsPrintable (scope_in scope label attrs) kids
   pub after : IsPrintable scope rest
@@ -71,9 +71,9 @@ pub all_cut : {A : Type 0} (test : A → Bool) (xs ys : List A) → list_all tes
 all_cut test xs ys h = and_parts (list_all test xs) (list_all test ys) (sym (list_all-append test xs ys) ∙ h)
 
 -- what fits below a node is no document and no attribute
-pub tops_child : (parent : Label) (f : Forest Label) → AllTops (fits parent) f → AllTops is_child f
-tops_child parent none h = tt
-tops_child parent (tree label attrs kids rest) h = ((and_parts (is_doc parent || is_elem parent) (is_child label) h.0).1, tops_child parent rest h.1)
+pub roots_child : (parent : Label) (f : Forest Label) → AllRoots (fits parent) f → AllRoots is_child f
+roots_child parent none h = tt
+roots_child parent (tree label attrs kids rest) h = ((and_parts (is_doc parent || is_elem parent) (is_child label) h.0).1, roots_child parent rest h.1)
 
 pub node_parts : (scope : Scope) (label : Label) (attrs : List Label) (kids rest : Forest Label) → IsPrintable scope (tree label attrs kids rest) → AreNodeParts scope label attrs kids rest
 node_parts scope label attrs kids rest h =
@@ -86,7 +86,7 @@ node_parts scope label attrs kids rest h =
     let texts = and_parts ((not (is_text label) || begins_no_text rest) && are_texts_apart kids) (are_texts_apart rest) h.sound.texts in
     let first_texts = and_parts (not (is_text label) || begins_no_text rest) (are_texts_apart kids) texts.0 in
     record {
-      child = h.sound.tops.0;
+      child = h.sound.root_nodes.0;
       owner = h.sound.places.0;
       good = goods.0;
       attrs_good = good_attrs.0;
@@ -95,8 +95,8 @@ node_parts scope label attrs kids rest h =
       none_added = h.none_added.0;
       fit = h.sound.places.1;
       apart = first_texts.0;
-      inner = record { sound = record { tops = tops_child label kids h.sound.places.1; places = h.sound.places.2; nodes = good_below.0; texts = first_texts.1 }; read = read_below.0; none_added = h.none_added.1 };
-      after = record { sound = record { tops = h.sound.tops.1; places = h.sound.places.3; nodes = good_below.1; texts = texts.1 }; read = read_below.1; none_added = h.none_added.2 };
+      inner = record { sound = record { root_nodes = roots_child label kids h.sound.places.1; places = h.sound.places.2; nodes = good_below.0; texts = first_texts.1 }; read = read_below.0; none_added = h.none_added.1 };
+      after = record { sound = record { root_nodes = h.sound.root_nodes.1; places = h.sound.places.3; nodes = good_below.1; texts = texts.1 }; read = read_below.1; none_added = h.none_added.2 };
     }
 
 -- ---- nodes that aren't elements
@@ -108,7 +108,7 @@ no_attrs label (a ∷ attrs) h e =
     let middle = and_parts (is_elem label && list_all is_attr (a ∷ attrs)) (are_distinct_names (map (λ (b : Label). b.name) (a ∷ attrs))) last.0 in
     absurd (true≢false (sym (and_parts (is_elem label) (list_all is_attr (a ∷ attrs)) middle.0).0 ∙ e))
 
-pub no_kids : (label : Label) (kids : Forest Label) → AllTops (fits label) kids → (is_doc label || is_elem label) ≡ false → kids ≡ none
+pub no_kids : (label : Label) (kids : Forest Label) → AllRoots (fits label) kids → (is_doc label || is_elem label) ≡ false → kids ≡ none
 no_kids label none h e = refl
 no_kids label (tree child attrs kids rest) h e = absurd (true≢false (sym (and_parts (is_doc label || is_elem label) (is_child child) h.0).0 ∙ e))
 

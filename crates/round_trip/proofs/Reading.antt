@@ -4,7 +4,7 @@ use Rattle.std.specs.List.{list_all}
 use Rattle.std.proofs.lemmas.Bool.{and_parts, false≢true}
 use Rattle.tree_model.specs.Forest.{Forest, none, tree, walk, join}
 use Rattle.tree_model.specs.Labels.{Label, doc_label, local_name, numbered, with_path}
-use Rattle.tree_model.specs.Sound.{has_no_name, is_good_label, is_doc, AllTops, are_texts_apart, IsSound}
+use Rattle.tree_model.specs.Sound.{has_no_name, is_good_label, is_doc, AllRoots, are_texts_apart, IsSound}
 use Rattle.tree_model.specs.XmlSource.{done, content_text, Source, source_text}
 use Rattle.tree_model.specs.XmlGood.{AreChars, IsSource}
 use Rattle.tree_model.specs.XmlMeaning.{first_scope, content_trees, misc_trees}
@@ -19,7 +19,7 @@ use Rattle.tree_model.proofs.XmlUtf8.{IsTextOfChars}
 use Rattle.round_trip.specs.Cut.{content_cut}
 use Rattle.round_trip.proofs.Characters.{printed_chars}
 use Rattle.round_trip.proofs.Written.{good_node}
-use Rattle.round_trip.proofs.Printable.{without_ids, numbered_without, without_joined, IsPrintable, all_cut, tops_child, no_attrs, unnamed}
+use Rattle.round_trip.proofs.Printable.{without_ids, numbered_without, without_joined, IsPrintable, all_cut, roots_child, no_attrs, unnamed}
 use Rattle.round_trip.proofs.Contents.{label_of}
 use Rattle.round_trip.proofs.CutForests.{forest_cut}
 use Rattle.round_trip.proofs.Documents.{bare_misc, bare_trees, bare_cut, root_cut, IsSplit, split_at_root, text_joined}
@@ -104,7 +104,7 @@ document_children id name value attrs kids next sound read none_added =
     let below = all_cut is_good_label (walk kids) [] (all_cut is_good_label attrs (walk kids ++ []) nodes.1).1 in
     let texts = and_parts (true && are_texts_apart kids) true sound.rules.texts in
     record {
-      sound = record { tops = tops_child label kids sound.rules.places.1; places = sound.rules.places.2; nodes = below.0; texts = texts.0 };
+      sound = record { root_nodes = roots_child label kids sound.rules.places.1; places = sound.rules.places.2; nodes = below.0; texts = texts.0 };
       read = read;
       none_added = none_added;
     }
@@ -157,7 +157,7 @@ doc_kind label h = by label.kind h
 
 pub printed_reads : PrintedReads
 printed_reads f next sound one short =
-    let roots : AllTops is_doc (tree one.label one.attrs one.kids none) = subst (AllTops is_doc) one.is sound.rules.roots in
+    let roots : AllRoots is_doc (tree one.label one.attrs one.kids none) = subst (AllRoots is_doc) one.is sound.rules.roots in
     let is : f ≡ document one.label.id one.label.name one.label.value one.attrs one.kids = one.is ∙ ap (λ (k : Kind). tree (label_of k one.label.id one.label.name one.label.value) one.attrs one.kids none) (doc_kind one.label roots.0) in
     let sound_so : IsSound (document one.label.id one.label.name one.label.value one.attrs one.kids) next = subst (λ (g : Forest Label). IsSound g next) is sound in
     let printable = document_children one.label.id one.label.name one.label.value one.attrs one.kids next sound_so one.read_again one.none_added in

@@ -3,6 +3,8 @@ use Rattle.std.specs.Prelude.{◌≡◌, ℕ, Bool, List, [], map, Option, Some,
 use Rattle.std.specs.Option.{option_map}
 use Rattle.std.proofs.Common.{ap, sym, ◌∙◌, refl}
 use Rattle.tree_model.specs.declared.axis.Axis.{Axis}
+use Rattle.tree_model.specs.declared.axis.Test.{Test}
+use Rattle.tree_model.specs.declared.function.Function.{Function}
 use Rattle.query_terms.specs.declared.parts.Span.{Span}
 use Rattle.query_terms.specs.declared.parts.QName.{QName}
 use Rattle.query_terms.specs.declared.parts.Literal.{Literal}
@@ -104,8 +106,8 @@ path_is span start first others = ap faults (sym (exprs.rolls-Path span start fi
 pub filter_is : (span : Span) (head : Expr) (predicates : List Expr) → faults (exprs.Filter span head predicates) ≡ many (faults head) (map faults predicates)
 filter_is span head predicates = ap faults (sym (exprs.rolls-Filter span head predicates)) ∙ faults_roll (Expr-F.Filter span head predicates)
 
-pub axis_step_is : (span : Span) (axis : Axis) (test : NodeTest) → faults (exprs.AxisStep span axis test) ≡ test_faults test
-axis_step_is span axis test = ap faults (sym (exprs.rolls-AxisStep span axis test)) ∙ faults_roll (Expr-F.AxisStep span axis test)
+pub axis_step_is : (span : Span) (axis : Axis) (test : NodeTest) (tested : Option Test) → faults (exprs.AxisStep span axis test tested) ≡ test_faults test
+axis_step_is span axis test tested = ap faults (sym (exprs.rolls-AxisStep span axis test tested)) ∙ faults_roll (Expr-F.AxisStep span axis test tested)
 
 pub number_is : (span : Span) (text : List ℕ) (env : Environment) → faults (exprs.Number span text) env ≡ number_faults span text
 number_is span text env = ap (λ (m : Meaning). m env) (ap faults (sym (exprs.rolls-Number span text)) ∙ faults_roll (Expr-F.Number span text))
@@ -143,8 +145,8 @@ computed_by_value_is span kind name scope (Some e) = ap faults (sym (exprs.rolls
 pub computed_unnamed_is : (span : Span) (kind : UnnamedKind) (body : Expr) → faults (exprs.ComputedUnnamed span kind body) ≡ (faults body)
 computed_unnamed_is span kind body = ap faults (sym (exprs.rolls-ComputedUnnamed span kind body)) ∙ faults_roll (Expr-F.ComputedUnnamed span kind body)
 
-pub call_is : (span : Span) (name : QName) (arguments : List Expr) → faults (exprs.Call span name arguments) ≡ call name (map faults arguments)
-call_is span name arguments = ap faults (sym (exprs.rolls-Call span name arguments)) ∙ faults_roll (Expr-F.Call span name arguments)
+pub call_is : (span : Span) (name : QName) (arguments : List Expr) (function : Option Function) → faults (exprs.Call span name arguments function) ≡ call name (map faults arguments)
+call_is span name arguments function = ap faults (sym (exprs.rolls-Call span name arguments function)) ∙ faults_roll (Expr-F.Call span name arguments function)
 
 pub for_faults_is : (v : Variable) (position : Option Variable) (source : Expr) → (clause (clauses.For v position source)).faults ≡ for_faults v position (faults source)
 for_faults_is v position source = ap (λ (c : ClauseMeaning). c.faults) (ap clause (sym (clauses.rolls-For v position source)) ∙ clause_roll (Clause-F.For v position source))

@@ -3,6 +3,8 @@ use Rattle.std.specs.Prelude.{◌≡◌, ℕ, Bool, true, false, ◌||◌, List,
 use Rattle.std.specs.Option.{option_map}
 use Rattle.std.proofs.Common.{ap, sym, ◌∙◌}
 use Rattle.tree_model.specs.declared.axis.Axis.{Axis}
+use Rattle.tree_model.specs.declared.axis.Test.{Test}
+use Rattle.tree_model.specs.declared.function.Function.{Function}
 use Rattle.query_terms.specs.declared.parts.Span.{Span}
 use Rattle.query_terms.specs.declared.parts.QName.{QName}
 use Rattle.query_terms.specs.declared.parts.Literal.{Literal}
@@ -93,8 +95,8 @@ path_is span start first others = ap is_updating (sym (exprs.rolls-Path span sta
 pub filter_is : (span : Span) (head : Expr) (predicates : List Expr) → is_updating (exprs.Filter span head predicates) ≡ false
 filter_is span head predicates = ap is_updating (sym (exprs.rolls-Filter span head predicates)) ∙ updating_roll (Expr-F.Filter span head predicates)
 
-pub axis_step_is : (span : Span) (axis : Axis) (test : NodeTest) → is_updating (exprs.AxisStep span axis test) ≡ false
-axis_step_is span axis test = ap is_updating (sym (exprs.rolls-AxisStep span axis test)) ∙ updating_roll (Expr-F.AxisStep span axis test)
+pub axis_step_is : (span : Span) (axis : Axis) (test : NodeTest) (tested : Option Test) → is_updating (exprs.AxisStep span axis test tested) ≡ false
+axis_step_is span axis test tested = ap is_updating (sym (exprs.rolls-AxisStep span axis test tested)) ∙ updating_roll (Expr-F.AxisStep span axis test tested)
 
 pub number_is : (span : Span) (text : List ℕ) → is_updating (exprs.Number span text) ≡ false
 number_is span text = ap is_updating (sym (exprs.rolls-Number span text)) ∙ updating_roll (Expr-F.Number span text)
@@ -130,8 +132,8 @@ computed_by_value_is span kind name scope body = ap is_updating (sym (exprs.roll
 pub computed_unnamed_is : (span : Span) (kind : UnnamedKind) (body : Expr) → is_updating (exprs.ComputedUnnamed span kind body) ≡ false
 computed_unnamed_is span kind body = ap is_updating (sym (exprs.rolls-ComputedUnnamed span kind body)) ∙ updating_roll (Expr-F.ComputedUnnamed span kind body)
 
-pub call_is : (span : Span) (name : QName) (arguments : List Expr) → is_updating (exprs.Call span name arguments) ≡ false
-call_is span name arguments = ap is_updating (sym (exprs.rolls-Call span name arguments)) ∙ updating_roll (Expr-F.Call span name arguments)
+pub call_is : (span : Span) (name : QName) (arguments : List Expr) (function : Option Function) → is_updating (exprs.Call span name arguments function) ≡ false
+call_is span name arguments function = ap is_updating (sym (exprs.rolls-Call span name arguments function)) ∙ updating_roll (Expr-F.Call span name arguments function)
 
 pub parenthesized_none_is : (span : Span) → is_updating (exprs.Parenthesized span None) ≡ false
 parenthesized_none_is span = parenthesized_is span None

@@ -1,4 +1,5 @@
 pub mod Verdict
 pub mod Found
+pub mod Codes
 pub mod Walked
 pub mod Checks

@@ -1,20 +1,22 @@
 // Faults, and the first of those that were found.
-ghost use Rattle.std.specs.Prelude.{◌≡◌, MatchOption};
-ghost use Rattle.tree_model.specs.CodeTexts.{text_of_code};
+ghost use Rattle.std.specs.Prelude.{◌≡◌, true, MatchOption};
+ghost use Rattle.std.proofs.Props.{props};
+ghost use Rattle.tree_model.specs.QueryCodes.{query_code, is_query_code};
 ghost use Rattle.query_terms.specs.Static as spec;
-ghost use Rattle.static_rules.specs.Found.{HasCode};
+ghost use Rattle.static_rules.specs.Codes.{HasCode};
 
 use dec_num::{NumFault, read};
 use query_terms::{Literal, Span};
 use std::marker::Model;
 use tree_model::{Code, Text};
 
-// A code, with the place of the term at fault and the number of the rule that it breaks.
+// A code of queries, with the place of the term at fault and the number of the rule that it breaks.
 #[derive(Clone, Copy)]
 struct Fault {
     place: usize,
     rule: u8,
     code: Code,
+    ghost is_of_queries: { is_query_code code ≡ true } by { Prim.hlevel props },
 }
 
 // The first of the faults that were found: the least place, and at one place the least rule.
@@ -42,7 +44,8 @@ impl Found {
     }
 
     pub(crate) fn note(&mut self, place: usize, rule: u8, code: Code)
-        ensures { self.new ≡ spec.lesser self.old (spec.fault place rule (text_of_code code)) }
+        requires { is_query_code code ≡ true }
+        ensures { self.new ≡ spec.lesser self.old (spec.fault place rule (query_code code)) }
     {
         let fault = Fault { place, rule, code };
         match self.first {
@@ -53,7 +56,8 @@ impl Found {
     }
 
     pub(crate) fn note_if(&mut self, is_broken: bool, place: usize, rule: u8, code: Code)
-        ensures { self.new ≡ spec.least_of self.old (spec.fault_if is_broken (spec.fault place rule (text_of_code code))) }
+        requires { is_query_code code ≡ true }
+        ensures { self.new ≡ spec.least_of self.old (spec.fault_if is_broken (spec.fault place rule (query_code code))) }
     {
         if is_broken {
             self.note(place, rule, code);
@@ -81,7 +85,7 @@ impl Found {
     }
 
     // The code of the first fault.
-    #[tactic(auto, unfolding(crate::specs::Found::HasCode))]
+    #[tactic(auto, unfolding(crate::specs::Codes::HasCode))]
     pub(crate) fn code(&self) -> Option<Code>
         ensures { MatchOption result (self.now ≡ None) (λ code. HasCode self.now code) }
     {

@@ -2,7 +2,6 @@
 #![tactic(auto)]
 
 mod fault;
-mod functions;
 mod prolog;
 mod state;
 mod updating;
@@ -10,6 +9,3 @@ mod verdict;
 mod walk;
 
 pub use verdict::{Checked, check};
-
-#[cfg(test)]
-mod tests;

@@ -1,19 +1,29 @@
 // What a walk over a query carries along, and the faults that terms have by themselves.
 ghost use Rattle.std.specs.Prelude.{◌≡◌};
 ghost use Rattle.query_terms.specs.Static as spec;
+ghost use Rattle.tree_model.specs.Functions.{function_named};
 ghost use Rattle.static_rules.specs.Walked.{Noted};
 
 use crate::fault::Found;
-use crate::functions::takes;
 use name_scopes::{Environment, FUNCTIONS_URI};
 use query_terms::{NodeTest, QName, Variable};
-use tree_model::Code;
+use tree_model::{Code, Function};
 
 // Where the walk stands, and what it has found.
 #[derive(Drop)]
 pub(crate) struct State {
     pub(crate) environment: Environment,
     pub(crate) found: Found,
+}
+
+// Whether the function of a local name, if there is one, takes so many arguments.
+fn takes_so_many(local: &str, count: usize) -> bool
+    ensures { result ≡ spec.takes_so_many (function_named local.now) count }
+{
+    match Function::named(local) {
+        Some(function) => function.takes(count),
+        None => false,
+    }
 }
 
 impl State {
@@ -60,12 +70,13 @@ impl State {
         }
     }
 
+    // Whether there is a function of this name with so many arguments.
     #[tactic(auto, unfolding(query_terms::specs::Static::is_function))]
     fn is_function(&self, name: &QName, count: usize) -> bool
         ensures { result ≡ spec.is_function self.now.environment.bindings name.now.name count }
     {
         self.environment.uri_or(FUNCTIONS_URI, &name.name) == FUNCTIONS_URI
-            && takes(count, name.name.local.as_str())
+            && takes_so_many(name.name.local.as_str(), count)
     }
 
     #[tactic(auto, unfolding(query_terms::specs::Static::call_faults))]

@@ -4,7 +4,7 @@ use Rattle.std.specs.Prelude.{◌⊎◌}
 use Rattle.std.proofs.lemmas.List.{get_or-append-add, get_or_at, get_or_append_left}
 use Rattle.tree_model.specs.Axes.{attributes, below}
 use Rattle.tree_model.specs.Forest.{Forest, none, tree, count, Line, raise, attr_lines, lines, flatten}
-use Rattle.tree_model.specs.Nodes.{Node, attr_nodes, nodes_from, nodes, tops_from, children}
+use Rattle.tree_model.specs.Nodes.{Node, attr_nodes, nodes_from, nodes, root_nodes_from, children}
 use Rattle.tree_model.specs.Trees.{length-lines, length-attr_lines, raise_pos}
 use Rattle.tree_model.proofs.Standing.{IsIn, in_append, in_left, in_right, own_line, stands}
 
@@ -35,9 +35,9 @@ pub record TopIn (A : Type 0) (n : ℕ) (f : Forest A) (x : Node A) : Type 0 whe
   pub from : n ≤ x.place
   pub within : x.place + weight x ≤ n + count f
   -- behind it the list ends, or the next tree begins
-  pub next : (x.place + weight x ≡ n + count f) ⊎ ((y : Node A) × IsIn (tops_from n f) y × (y.place ≡ x.place + weight x))
+  pub next : (x.place + weight x ≡ n + count f) ⊎ ((y : Node A) × IsIn (root_nodes_from n f) y × (y.place ≡ x.place + weight x))
 
-pub top_in : {A : Type 0} (n : ℕ) (f : Forest A) (x : Node A) → IsIn (tops_from n f) x → TopIn A n f x
+pub top_in : {A : Type 0} (n : ℕ) (f : Forest A) (x : Node A) → IsIn (root_nodes_from n f) x → TopIn A n f x
 top_in n none x h = absurd h
 top_in {A = A} n (tree a attrs kids none) x (inl e) =
     subst (λ (y : Node A). TopIn A n (tree a attrs kids none) y) e
@@ -52,8 +52,8 @@ top_in {A = A} n (tree a attrs kids (tree b more inner rest)) x (inl e) =
     })
 top_in {A = A} n (tree a attrs kids rest) x (inr h) = further (top_in (n + (1 + length attrs + count kids)) rest x h)
   where
-    ahead : (TopIn A (n + (1 + length attrs + count kids)) rest x) → (x.place + weight x ≡ n + (1 + length attrs + count kids) + count rest) ⊎ ((y : Node A) × IsIn (tops_from (n + (1 + length attrs + count kids)) rest) y × (y.place ≡ x.place + weight x))
-        → (x.place + weight x ≡ n + (1 + length attrs + count kids + count rest)) ⊎ ((y : Node A) × IsIn (tops_from n (tree a attrs kids rest)) y × (y.place ≡ x.place + weight x))
+    ahead : (TopIn A (n + (1 + length attrs + count kids)) rest x) → (x.place + weight x ≡ n + (1 + length attrs + count kids) + count rest) ⊎ ((y : Node A) × IsIn (root_nodes_from (n + (1 + length attrs + count kids)) rest) y × (y.place ≡ x.place + weight x))
+        → (x.place + weight x ≡ n + (1 + length attrs + count kids + count rest)) ⊎ ((y : Node A) × IsIn (root_nodes_from n (tree a attrs kids rest)) y × (y.place ≡ x.place + weight x))
     ahead r (inl e) = inl (omega (arith, e))
     ahead r (inr y) = inr (y.0, inr y.1, y.2)
 
@@ -61,7 +61,7 @@ top_in {A = A} n (tree a attrs kids rest) x (inr h) = further (top_in (n + (1 + 
     further r = record { from = omega (arith, r.from); within = omega (arith, r.within); next = ahead r r.next }
 
 -- where there are trees, one begins at their place
-pub first_top : {A : Type 0} (n : ℕ) (f : Forest A) → 0 < count f → (y : Node A) × IsIn (tops_from n f) y × (y.place ≡ n)
+pub first_top : {A : Type 0} (n : ℕ) (f : Forest A) → 0 < count f → (y : Node A) × IsIn (root_nodes_from n f) y × (y.place ≡ n)
 first_top n none lt = absurd (omega arith)
 first_top n (tree a attrs kids rest) lt = (record { place = n; label = a; attrs = attrs; kids = kids }, inl refl, refl)
 
@@ -70,7 +70,7 @@ first_top n (tree a attrs kids rest) lt = (record { place = n; label = a; attrs 
 abbrev pub HasParent : {A : Type 0} → ℕ → Forest A → Node A → Type 0
 HasParent {A} n f x = (y : Node A) × IsIn (nodes_from n f) y × (IsIn (children y) x ⊎ IsIn (attributes y) x)
 
-pub has_parent : {A : Type 0} (n : ℕ) (f : Forest A) (x : Node A) → IsIn (nodes_from n f) x → IsIn (tops_from n f) x ⊎ HasParent n f x
+pub has_parent : {A : Type 0} (n : ℕ) (f : Forest A) (x : Node A) → IsIn (nodes_from n f) x → IsIn (root_nodes_from n f) x ⊎ HasParent n f x
 has_parent n none x h = absurd h
 has_parent n (tree a attrs kids rest) x (inl e) = inl (inl e)
 has_parent {A = A} n (tree a attrs kids rest) x (inr h) =
@@ -89,25 +89,25 @@ has_parent {A = A} n (tree a attrs kids rest) x (inr h) =
     rs = nodes_from (n + (1 + length attrs + count kids)) rest
 
     Answer : Type 0
-    Answer = IsIn (tops_from n (tree a attrs kids rest)) x ⊎ HasParent n (tree a attrs kids rest) x
+    Answer = IsIn (root_nodes_from n (tree a attrs kids rest)) x ⊎ HasParent n (tree a attrs kids rest) x
 
-    of_kids : IsIn (tops_from (n + (1 + length attrs)) kids) x ⊎ HasParent (n + (1 + length attrs)) kids x → Answer
+    of_kids : IsIn (root_nodes_from (n + (1 + length attrs)) kids) x ⊎ HasParent (n + (1 + length attrs)) kids x → Answer
     of_kids (inl t) = inr (own, inl refl, inl t)
     of_kids (inr y) = inr (y.0, inr (in_right al (ks ++ rs) y.0 (in_left ks rs y.0 y.1)), y.2)
 
-    of_rest : IsIn (tops_from (n + (1 + length attrs + count kids)) rest) x ⊎ HasParent (n + (1 + length attrs + count kids)) rest x → Answer
+    of_rest : IsIn (root_nodes_from (n + (1 + length attrs + count kids)) rest) x ⊎ HasParent (n + (1 + length attrs + count kids)) rest x → Answer
     of_rest (inl t) = inl (inr t)
     of_rest (inr y) = inr (y.0, inr (in_right al (ks ++ rs) y.0 (in_right ks rs y.0 y.1)), y.2)
 
-    inner : (IsIn ks x → IsIn (tops_from (n + (1 + length attrs)) kids) x ⊎ HasParent (n + (1 + length attrs)) kids x)
-        → (IsIn rs x → IsIn (tops_from (n + (1 + length attrs + count kids)) rest) x ⊎ HasParent (n + (1 + length attrs + count kids)) rest x)
+    inner : (IsIn ks x → IsIn (root_nodes_from (n + (1 + length attrs)) kids) x ⊎ HasParent (n + (1 + length attrs)) kids x)
+        → (IsIn rs x → IsIn (root_nodes_from (n + (1 + length attrs + count kids)) rest) x ⊎ HasParent (n + (1 + length attrs + count kids)) rest x)
         → IsIn ks x ⊎ IsIn rs x → Answer
     inner in_kids in_rest (inl k) = of_kids (in_kids k)
     inner in_kids in_rest (inr r) = of_rest (in_rest r)
 
     by : IsIn al x ⊎ IsIn (ks ++ rs) x
-        → (IsIn ks x → IsIn (tops_from (n + (1 + length attrs)) kids) x ⊎ HasParent (n + (1 + length attrs)) kids x)
-        → (IsIn rs x → IsIn (tops_from (n + (1 + length attrs + count kids)) rest) x ⊎ HasParent (n + (1 + length attrs + count kids)) rest x)
+        → (IsIn ks x → IsIn (root_nodes_from (n + (1 + length attrs)) kids) x ⊎ HasParent (n + (1 + length attrs)) kids x)
+        → (IsIn rs x → IsIn (root_nodes_from (n + (1 + length attrs + count kids)) rest) x ⊎ HasParent (n + (1 + length attrs + count kids)) rest x)
         → Answer
     by (inl al_in) in_kids in_rest = inr (own, inl refl, inr al_in)
     by (inr more) in_kids in_rest = inner in_kids in_rest (in_append ks rs x more)
@@ -163,7 +163,7 @@ attr_line d n (suc k) (a ∷ attrs) x z (inr h) e =
     attr_line (suc d) (suc n) k attrs x z h (omega (arith, e)) ∙ ap (λ m. own_line m x) (omega arith)
 
 -- a tree of a list whose first stands at distance d
-top_line : {A : Type 0} (d n k : ℕ) (f : Forest A) (x : Node A) (z : Line A) → 0 < d → IsIn (tops_from n f) x → x.place ≡ n + k → get_or (lines d f) k z ≡ own_line (d + k) x
+top_line : {A : Type 0} (d n k : ℕ) (f : Forest A) (x : Node A) (z : Line A) → 0 < d → IsIn (root_nodes_from n f) x → x.place ≡ n + k → get_or (lines d f) k z ≡ own_line (d + k) x
 top_line d n k none x z lt h e = absurd h
 top_line {A = A} d n zero (tree a attrs kids rest) x z lt (inl is) e =
     let P : Node A → Type 0 = λ y. get_or (lines d (tree a attrs kids rest)) 0 z ≡ own_line (d + 0) y in
@@ -187,7 +187,7 @@ top_line {A = A} d n k (tree a attrs kids rest) x z lt (inr h) e =
     ∙ ap (λ m. own_line m x) (omega (arith, far, le))
 
 -- a root stands at no distance
-root_from : {A : Type 0} (n k : ℕ) (f : Forest A) (x : Node A) (z : Line A) → IsIn (tops_from n f) x → x.place ≡ n + k → get_or (lines 0 f) k z ≡ own_line 0 x
+root_from : {A : Type 0} (n k : ℕ) (f : Forest A) (x : Node A) (z : Line A) → IsIn (root_nodes_from n f) x → x.place ≡ n + k → get_or (lines 0 f) k z ≡ own_line 0 x
 root_from n k none x z h e = absurd h
 root_from {A = A} n zero (tree a attrs kids rest) x z (inl is) e =
     let P : Node A → Type 0 = λ y. get_or (lines 0 (tree a attrs kids rest)) 0 z ≡ own_line 0 y in subst P is refl
@@ -207,7 +207,7 @@ root_from {A = A} n k (tree a attrs kids rest) x z (inr h) e =
     ∙ get_or-append-add (own ∷ (al ++ ks)) rs j z
     ∙ root_from (n + size) j rest x z h (omega (arith, e, le))
 
-pub root_line : {A : Type 0} (f : Forest A) (x : Node A) (z : Line A) → IsIn (tops_from 0 f) x → get_or (flatten f) x.place z ≡ own_line 0 x
+pub root_line : {A : Type 0} (f : Forest A) (x : Node A) (z : Line A) → IsIn (root_nodes_from 0 f) x → get_or (flatten f) x.place z ≡ own_line 0 x
 root_line f x z h = root_from 0 x.place f x z h (omega arith)
 
 -- every node's line is its own, at some distance

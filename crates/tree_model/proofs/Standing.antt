@@ -4,7 +4,7 @@ use Rattle.std.specs.Prelude.{◌⊎◌, ◌||◌, filter, nat_eq}
 use Rattle.std.specs.List.{Contains, slice_index_or, range_with_len}
 use Rattle.std.proofs.lemmas.List.{map-append}
 use Rattle.tree_model.specs.Forest.{Forest, none, tree, count, Line, raise, attr_lines, lines}
-use Rattle.tree_model.specs.Nodes.{Node, attr_nodes, nodes_from, nodes, tops_from, children, is_among, is_place_among, in_document_order}
+use Rattle.tree_model.specs.Nodes.{Node, attr_nodes, nodes_from, nodes, root_nodes_from, children, is_among, is_place_among, in_document_order}
 use Rattle.tree_model.specs.Trees.{length-lines, length-attr_lines}
 
 -- ---- elements of lists
@@ -121,11 +121,11 @@ stands {A = A} d n (tree a attrs kids rest) node (inr h) =
 
 -- ---- children are nodes
 
-pub tops_in : {A : Type 0} (n : ℕ) (f : Forest A) (node : Node A) → IsIn (tops_from n f) node → IsIn (nodes_from n f) node
-tops_in n none node h = h
-tops_in n (tree a attrs kids rest) node (inl e) = inl e
-tops_in n (tree a attrs kids rest) node (inr h) =
-    inr (in_right (attr_nodes (n + 1) attrs) _ node (in_right (nodes_from (n + (1 + length attrs)) kids) _ node (tops_in (n + (1 + length attrs + count kids)) rest node h)))
+pub roots_in : {A : Type 0} (n : ℕ) (f : Forest A) (node : Node A) → IsIn (root_nodes_from n f) node → IsIn (nodes_from n f) node
+roots_in n none node h = h
+roots_in n (tree a attrs kids rest) node (inl e) = inl e
+roots_in n (tree a attrs kids rest) node (inr h) =
+    inr (in_right (attr_nodes (n + 1) attrs) _ node (in_right (nodes_from (n + (1 + length attrs)) kids) _ node (roots_in (n + (1 + length attrs + count kids)) rest node h)))
 
 attr_no_kids : {A : Type 0} (n : ℕ) (attrs : List A) (node child : Node A) → IsIn (attr_nodes n attrs) node → IsIn (children node) child → ⊥
 attr_no_kids n [] node child h c = h
@@ -137,8 +137,8 @@ pub children_in : {A : Type 0} (n : ℕ) (f : Forest A) (node child : Node A) �
 children_in n none node child h c = h
 children_in {A = A} n (tree a attrs kids rest) node child (inl e) c =
     let P : Node A → Type 0 = λ x. IsIn (children x) child in
-    let own : IsIn (tops_from (n + (1 + length attrs)) kids) child = subst P (sym e) c in
-    inr (in_right (attr_nodes (n + 1) attrs) _ child (in_left (nodes_from (n + (1 + length attrs)) kids) _ child (tops_in (n + (1 + length attrs)) kids child own)))
+    let own : IsIn (root_nodes_from (n + (1 + length attrs)) kids) child = subst P (sym e) c in
+    inr (in_right (attr_nodes (n + 1) attrs) _ child (in_left (nodes_from (n + (1 + length attrs)) kids) _ child (roots_in (n + (1 + length attrs)) kids child own)))
 children_in {A = A} n (tree a attrs kids rest) node child (inr h) c =
     by (in_append (attr_nodes (n + 1) attrs) _ node h) (λ k. children_in (n + (1 + length attrs)) kids node child k c) (λ r. children_in (n + (1 + length attrs + count kids)) rest node child r c)
   where

@@ -7,7 +7,7 @@ use Rattle.std.proofs.lemmas.List.Folds.{list_all-append}
 use Rattle.tree_model.specs.Declarations.{Binding, declarations_of}
 use Rattle.tree_model.specs.Forest.{Forest, none, tree, walk, count, join}
 use Rattle.tree_model.specs.Labels.{Label, with_id, numbered_attrs, numbered}
-use Rattle.tree_model.specs.Sound.{is_empty, are_distinct_names, is_good_label, is_doc, is_elem, is_text, is_attr, fits, binding_of, are_distinct, have_one_uri, binds_well, owns, AllTops, Kept, begins_no_text, are_texts_apart}
+use Rattle.tree_model.specs.Sound.{is_empty, are_distinct_names, is_good_label, is_doc, is_elem, is_text, is_attr, fits, binding_of, are_distinct, have_one_uri, binds_well, owns, AllRoots, Kept, begins_no_text, are_texts_apart}
 use Rattle.tree_model.specs.declared.text.Name.{Name}
 
 -- a node that may be a child
@@ -15,20 +15,20 @@ abbrev pub is_child : Label → Bool
 is_child label = not (is_doc label || is_attr label)
 
 pub record IsSoundForest (f : Forest Label) : Type 0 where
-  pub tops : AllTops is_child f
+  pub root_nodes : AllRoots is_child f
   pub places : Kept fits owns f
   pub nodes : list_all is_good_label (walk f) ≡ true
   pub texts : are_texts_apart f ≡ true
 
 pub sound_none : IsSoundForest none
-sound_none = record { tops = tt; places = tt; nodes = refl; texts = refl }
+sound_none = record { root_nodes = tt; places = tt; nodes = refl; texts = refl }
 
 all_joined : {A : Type 0} (test : A → Bool) (xs ys : List A) → list_all test xs ≡ true → list_all test ys ≡ true → list_all test (xs ++ ys) ≡ true
 all_joined test xs ys h k = list_all-append test xs ys ∙ and_from _ _ h k
 
-pub tops_fit : (parent : Label) → (is_doc parent || is_elem parent) ≡ true → (f : Forest Label) → AllTops is_child f → AllTops (fits parent) f
-tops_fit parent h none t = tt
-tops_fit parent h (tree label attrs kids rest) t = (and_from _ _ h t.0, tops_fit parent h rest t.1)
+pub roots_fit : (parent : Label) → (is_doc parent || is_elem parent) ≡ true → (f : Forest Label) → AllRoots is_child f → AllRoots (fits parent) f
+roots_fit parent h none t = tt
+roots_fit parent h (tree label attrs kids rest) t = (and_from _ _ h t.0, roots_fit parent h rest t.1)
 
 -- a node by itself, with its attributes
 pub record IsSoundNode (label : Label) (attrs : List Label) : Type 0 where
@@ -37,10 +37,10 @@ pub record IsSoundNode (label : Label) (attrs : List Label) : Type 0 where
   pub good : is_good_label label ≡ true
   pub attrs_good : list_all is_good_label attrs ≡ true
 
-sound_with : (label : Label) (attrs : List Label) (kids rest : Forest Label) → AllTops (fits label) kids → (not (is_text label) || begins_no_text rest) ≡ true →
+sound_with : (label : Label) (attrs : List Label) (kids rest : Forest Label) → AllRoots (fits label) kids → (not (is_text label) || begins_no_text rest) ≡ true →
     IsSoundNode label attrs → IsSoundForest kids → IsSoundForest rest → IsSoundForest (tree label attrs kids rest)
 sound_with label attrs kids rest fit apart node inner after = record {
-  tops = (node.child, after.tops);
+  root_nodes = (node.child, after.root_nodes);
   places = (node.owner, fit, inner.places, after.places);
   nodes = and_from _ _ node.good (all_joined is_good_label attrs (walk kids ++ walk rest) node.attrs_good (all_joined is_good_label (walk kids) (walk rest) inner.nodes after.nodes));
   texts = and_from _ _ (and_from _ _ apart inner.texts) after.texts;
@@ -49,7 +49,7 @@ sound_with label attrs kids rest fit apart node inner after = record {
 -- an element before others
 pub sound_element : (label : Label) (attrs : List Label) (kids rest : Forest Label) → is_elem label ≡ true → is_text label ≡ false → IsSoundNode label attrs → IsSoundForest kids → IsSoundForest rest → IsSoundForest (tree label attrs kids rest)
 sound_element label attrs kids rest e t node inner after =
-    sound_with label attrs kids rest (tops_fit label (elem_fits (is_doc label) (is_elem label) e) kids inner.tops) (no_text (is_text label) (begins_no_text rest) t) node inner after
+    sound_with label attrs kids rest (roots_fit label (elem_fits (is_doc label) (is_elem label) e) kids inner.root_nodes) (no_text (is_text label) (begins_no_text rest) t) node inner after
   where
     elem_fits : (a b : Bool) → b ≡ true → (a || b) ≡ true
     elem_fits true b h = refl
@@ -64,9 +64,9 @@ sound_leaf label rest apart node after = sound_with label [] none rest tt apart 
 
 -- ---- joined
 
-tops_joined : (f g : Forest Label) → AllTops is_child f → AllTops is_child g → AllTops is_child (join f g)
-tops_joined none g h k = k
-tops_joined (tree label attrs kids rest) g h k = (h.0, tops_joined rest g h.1 k)
+roots_joined : (f g : Forest Label) → AllRoots is_child f → AllRoots is_child g → AllRoots is_child (join f g)
+roots_joined none g h k = k
+roots_joined (tree label attrs kids rest) g h k = (h.0, roots_joined rest g h.1 k)
 
 places_joined : (f g : Forest Label) → Kept fits owns f → Kept fits owns g → Kept fits owns (join f g)
 places_joined none g h k = k
@@ -93,7 +93,7 @@ texts_joined (tree label attrs kids rest) g h b k =
 
 pub sound_joined : (f g : Forest Label) → IsSoundForest f → begins_no_text g ≡ true → IsSoundForest g → IsSoundForest (join f g)
 sound_joined f g h b k = record {
-  tops = tops_joined f g h.tops k.tops;
+  root_nodes = roots_joined f g h.root_nodes k.root_nodes;
   places = places_joined f g h.places k.places;
   nodes = ap (list_all is_good_label) (walk_joined f g) ∙ all_joined is_good_label (walk f) (walk g) h.nodes k.nodes;
   texts = texts_joined f g h.texts b k.texts;
@@ -121,15 +121,15 @@ owns_numbered m n label (a ∷ attrs) =
     && (are_distinct (map (λ (d : Binding). d.0) (declarations_of label.value)) && have_one_uri (declarations_of label.value ++ map binding_of (label.name ∷ filter (λ (name : Name). not (is_empty name.prefix)) names))))
     (attrs_numbered n (a ∷ attrs)) (names_numbered n (a ∷ attrs))
 
-tops_numbered : (test : Label → Bool) → ((m : ℕ) (label : Label) → test label ≡ true → test (with_id m label) ≡ true) → (n : ℕ) (f : Forest Label) → AllTops test f → AllTops test (numbered n f)
-tops_numbered test same n none h = tt
-tops_numbered test same n (tree label attrs kids rest) h = (same n label h.0, tops_numbered test same (n + (1 + length attrs + count kids)) rest h.1)
+roots_numbered : (test : Label → Bool) → ((m : ℕ) (label : Label) → test label ≡ true → test (with_id m label) ≡ true) → (n : ℕ) (f : Forest Label) → AllRoots test f → AllRoots test (numbered n f)
+roots_numbered test same n none h = tt
+roots_numbered test same n (tree label attrs kids rest) h = (same n label h.0, roots_numbered test same (n + (1 + length attrs + count kids)) rest h.1)
 
 places_numbered : (n : ℕ) (f : Forest Label) → Kept fits owns f → Kept fits owns (numbered n f)
 places_numbered n none h = tt
 places_numbered n (tree label attrs kids rest) h = (
   owns_numbered n (n + 1) label attrs ∙ h.0,
-  tops_numbered (fits label) (λ m child k. k) (n + (1 + length attrs)) kids h.1,
+  roots_numbered (fits label) (λ m child k. k) (n + (1 + length attrs)) kids h.1,
   places_numbered (n + (1 + length attrs)) kids h.2,
   places_numbered (n + (1 + length attrs + count kids)) rest h.3,
 )
@@ -156,7 +156,7 @@ texts_numbered n (tree label attrs kids rest) =
 
 pub sound_numbered : (n : ℕ) (f : Forest Label) → IsSoundForest f → IsSoundForest (numbered n f)
 sound_numbered n f h = record {
-  tops = tops_numbered is_child (λ m label k. k) n f h.tops;
+  root_nodes = roots_numbered is_child (λ m label k. k) n f h.root_nodes;
   places = places_numbered n f h.places;
   nodes = nodes_numbered n f ∙ h.nodes;
   texts = texts_numbered n f ∙ h.texts;

@@ -17,7 +17,7 @@ use Rattle.tree_model.proofs.XmlUtf8.{IsTextOfChars, text_nil, text_append, text
 use Rattle.tree_model.proofs.XmlSoundTexts.{IsPartText, HasTexts, path_chars, source_texts}
 use Rattle.tree_model.proofs.XmlSoundWords.{no_end_of_pi, no_end_of_comment}
 use Rattle.tree_model.proofs.XmlSoundScopes.{IsGoodScope, first_scope_good, are_pairs, tag_owns, written_differ, tag_sound}
-use Rattle.tree_model.proofs.XmlSoundForests.{IsSoundForest, IsSoundNode, sound_none, sound_element, sound_leaf, sound_joined, sound_numbered, tops_fit}
+use Rattle.tree_model.proofs.XmlSoundForests.{IsSoundForest, IsSoundNode, sound_none, sound_element, sound_leaf, sound_joined, sound_numbered, roots_fit}
 
 -- ---- tags without faults
 
@@ -190,7 +190,7 @@ document_sound path f h p =
     let doc_good : is_good_label (with_id 0 (doc_label path)) ≡ true = and_from _ _ (are_chars_from [] text_nil) (path_chars path p) in
     record {
       roots = (refl, tt);
-      places = (refl, tops_fit (with_id 0 (doc_label path)) refl (numbered 1 f) inner.tops, inner.places, tt);
+      places = (refl, roots_fit (with_id 0 (doc_label path)) refl (numbered 1 f) inner.root_nodes, inner.places, tt);
       nodes = and_from _ _ doc_good (nodes_of (numbered 1 f) inner.nodes);
       ids_once = λ id. omega (arith, with_path-ids id path (numbered 0 t), (numbered_once id 0 t).most);
       ids_below = with_path-below (count (numbered 0 t)) path (numbered 0 t) (numbered_below 0 (count (numbered 0 t)) t (omega (arith, count-numbered 0 t)));

@@ -5,7 +5,7 @@ use Rattle.std.specs.List.{flat_map, list_any}
 use Rattle.std.specs.Str.{bytes_eq}
 use Rattle.tree_model.specs.Forest.{Forest}
 use Rattle.tree_model.specs.Labels.{Label}
-use Rattle.tree_model.specs.Nodes.{Node, attr_nodes, nodes_from, nodes, tops, children, is_among, in_document_order}
+use Rattle.tree_model.specs.Nodes.{Node, attr_nodes, nodes_from, nodes, root_nodes, children, is_among, in_document_order}
 use Rattle.tree_model.specs.Sound.{is_doc, is_elem, is_text, is_attr, is_comm, is_pi}
 use Rattle.tree_model.specs.declared.axis.Axis.{Axis}
 use Rattle.tree_model.specs.declared.axis.Axis.TheVariants.{Child, Descendant, Attribute, Slf, DescendantOrSelf, FollowingSibling, Following, Parent, Ancestor, PrecedingSibling, Preceding, AncestorOrSelf}
@@ -41,7 +41,7 @@ are_siblings f a b = list_any (λ parent. is_among (children parent) a && is_amo
 
 -- whether two nodes stand in one tree
 unfoldable pub are_together : {A : Type 0} → Forest A → Node A → Node A → Bool
-are_together f a b = list_any (λ root. is_among (subtree root) a && is_among (subtree root) b) (tops f)
+are_together f a b = list_any (λ root. is_among (subtree root) a && is_among (subtree root) b) (root_nodes f)
 
 abbrev pub comes_before : {A : Type 0} → Node A → Node A → Bool
 comes_before a b = nat_lt a.place b.place
@@ -136,4 +136,4 @@ steps_from f (step ∷ steps) found = steps_from f steps (step_from f step found
 
 -- a path begins with all documents: they are the context where no node is
 abbrev pub path_value : Forest Label → List AxisStep → List (Node Label)
-path_value f steps = steps_from f steps (tops f)
+path_value f steps = steps_from f steps (root_nodes f)

@@ -5,6 +5,7 @@ use Rattle.std.specs.Ordering.{nat_cmp, int_cmp, int_eq, bool_cmp}
 use Rattle.std.specs.Str.{bytes_eq}
 use Rattle.std.specs.declared.cmp.Ordering.{Ordering}
 use Rattle.std.specs.declared.cmp.Ordering.TheVariants.{Less, Equal, Greater}
+use Rattle.tree_model.specs.QueryCodes.{FOAR0002, FORG0001, FORG0006, XPTY0004}
 use Rattle.tree_model.specs.Outcomes.{Checked, and_then}
 use Rattle.tree_model.specs.Numbers.{Numeral, number, no_number, too_great, numeral, trimmed, number_text, sum_of, difference_of, product_of, quotient_of, whole_quotient_of, remainder_of}
 use Rattle.tree_model.specs.Sound.{is_empty}
@@ -16,7 +17,7 @@ use Rattle.tree_model.specs.declared.item.ArithOp.{ArithOp}
 use Rattle.tree_model.specs.declared.item.ArithOp.TheVariants as arith
 
 abbrev pub no_such_type : {A : Type 0} → Checked A
-no_such_type = Err (codes "XPTY0004")
+no_such_type = Err XPTY0004
 
 -- an item that is no node
 abbrev pub is_atom : Item → Bool
@@ -35,10 +36,10 @@ truth_of (Str text) [] = Ok (not (is_empty text))
 truth_of (Untyped text) [] = Ok (not (is_empty text))
 truth_of (Number z) [] = Ok (not (int_eq z (pos 0)))
 truth_of (Truth b) [] = Ok b
-truth_of (Str text) (x ∷ more) = Err (codes "FORG0006")
-truth_of (Untyped text) (x ∷ more) = Err (codes "FORG0006")
-truth_of (Number z) (x ∷ more) = Err (codes "FORG0006")
-truth_of (Truth b) (x ∷ more) = Err (codes "FORG0006")
+truth_of (Str text) (x ∷ more) = Err FORG0006
+truth_of (Untyped text) (x ∷ more) = Err FORG0006
+truth_of (Number z) (x ∷ more) = Err FORG0006
+truth_of (Truth b) (x ∷ more) = Err FORG0006
 
 -- of a sequence: none is false, a first node is true
 abbrev pub truth : List Item → Checked Bool
@@ -52,15 +53,15 @@ number_of text = by (numeral text)
   where
     by : Numeral → Checked ℤ
     by (number z) = Ok z
-    by no_number = Err (codes "FORG0001")
-    by too_great = Err (codes "FOAR0002")
+    by no_number = Err FORG0001
+    by too_great = Err FOAR0002
 
 unfoldable pub boolean_of : List ℕ → Checked Bool
 boolean_of text =
     let word : List ℕ = trimmed text in
     if bytes_eq word (codes "true") || bytes_eq word (codes "1") then Ok true
     else if bytes_eq word (codes "false") || bytes_eq word (codes "0") then Ok false
-    else Err (codes "FORG0001")
+    else Err FORG0001
 
 -- ---- order
 

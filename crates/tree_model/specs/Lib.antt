@@ -23,3 +23,5 @@ pub mod XmlReadsSound
 pub mod States
 pub mod Codes
 pub mod CodeTexts
+pub mod QueryCodes
+pub mod Functions

@@ -27,17 +27,17 @@ abbrev pub nodes : {A : Type 0} → Forest A → List (Node A)
 nodes f = nodes_from 0 f
 
 -- the trees alone, without the nodes below them
-abbrev pub tops_from : {A : Type 0} → ℕ → Forest A → List (Node A)
-tops_from n none = []
-tops_from n (tree a attrs kids rest) =
-    record { place = n; label = a; attrs = attrs; kids = kids } ∷ tops_from (n + (1 + length attrs + count kids)) rest
+abbrev pub root_nodes_from : {A : Type 0} → ℕ → Forest A → List (Node A)
+root_nodes_from n none = []
+root_nodes_from n (tree a attrs kids rest) =
+    record { place = n; label = a; attrs = attrs; kids = kids } ∷ root_nodes_from (n + (1 + length attrs + count kids)) rest
 
-abbrev pub tops : {A : Type 0} → Forest A → List (Node A)
-tops f = tops_from 0 f
+abbrev pub root_nodes : {A : Type 0} → Forest A → List (Node A)
+root_nodes f = root_nodes_from 0 f
 
 -- the axis child (XPath 2.0, section 3.2.1.1)
 abbrev pub children : {A : Type 0} → Node A → List (Node A)
-children node = tops_from (node.place + (1 + length node.attrs)) node.kids
+children node = root_nodes_from (node.place + (1 + length node.attrs)) node.kids
 
 abbrev pub is_among : {A : Type 0} → List (Node A) → Node A → Bool
 is_among found node = list_any (λ other. nat_eq other.place node.place) found

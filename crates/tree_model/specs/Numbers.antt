@@ -1,11 +1,12 @@
 -- Decimal numbers in millionths, of an absolute value below 10^12: how they are written, and arithmetic (XQuery 1.0 and XPath 2.0
 -- Functions and Operators, sections 6.2 and 6.4, with one numeric type).
-use Rattle.std.specs.Prelude.{ℕ, ◌+◌, ◌-◌, ◌/◌, ◌%◌, ◌^◌, Bool, not, ◌&&◌, ◌||◌, ◌==◌, nat_lt, ℤ, pos, negsuc, neg_ℤ, ◌+ℤ◌, ◌-ℤ◌, ◌*ℤ◌, int_div, int_lt, unsigned_abs, List, [], ◌∷◌, ◌++◌, take, drop, length, replicate, codes, Ok, Err, if◌then◌else◌}
+use Rattle.std.specs.Prelude.{ℕ, ◌+◌, ◌-◌, ◌/◌, ◌%◌, ◌^◌, Bool, not, ◌&&◌, ◌||◌, ◌==◌, nat_lt, ℤ, pos, negsuc, neg_ℤ, ◌+ℤ◌, ◌-ℤ◌, ◌*ℤ◌, int_div, int_lt, unsigned_abs, List, [], ◌∷◌, ◌++◌, take, drop, length, replicate, Ok, Err, if◌then◌else◌}
 use Rattle.std.specs.List.{list_all, prefix_len, suffix_len}
 use Rattle.std.specs.Char.{is_ascii_digit}
 use Rattle.std.specs.Ordering.{int_eq}
 use Rattle.std.specs.Str.Parse.{digits_value}
 use Rattle.std.specs.Fmt.{decimal}
+use Rattle.tree_model.specs.QueryCodes.{FOAR0001, FOAR0002}
 use Rattle.tree_model.specs.Outcomes.{Checked}
 use Rattle.tree_model.specs.Sound.{is_empty}
 
@@ -91,11 +92,11 @@ number_text z = sign_text (int_lt z (pos 0)) ++ (decimal (unsigned_abs z / 10000
 
 -- a result, where it is in range
 abbrev pub in_range : ℤ → Checked ℤ
-in_range z = if nat_lt (unsigned_abs z) (10 ^ 18) then Ok z else Err (codes "FOAR0002")
+in_range z = if nat_lt (unsigned_abs z) (10 ^ 18) then Ok z else Err FOAR0002
 
 -- where the divisor isn't zero
 abbrev pub unless_zero : ℤ → Checked ℤ → Checked ℤ
-unless_zero y result = if int_eq y (pos 0) then Err (codes "FOAR0001") else result
+unless_zero y result = if int_eq y (pos 0) then Err FOAR0001 else result
 
 abbrev pub sum_of : ℤ → ℤ → Checked ℤ
 sum_of x y = in_range (x +ℤ y)

@@ -3,7 +3,7 @@ use Rattle.std.specs.Prelude.{◌≡◌, ℕ, ◌+◌, ◌≤◌, ◌^◌, Bool,
 use Rattle.std.specs.List.{list_any, list_all}
 use Rattle.tree_model.specs.Forest.{Forest, none, tree, walk}
 use Rattle.tree_model.specs.Labels.{Label, numbered, with_path}
-use Rattle.tree_model.specs.Sound.{AllTops, IsSound, is_elem, is_text}
+use Rattle.tree_model.specs.Sound.{AllRoots, IsSound, is_elem, is_text}
 use Rattle.tree_model.specs.XmlChars.{is_space, first_is}
 use Rattle.tree_model.specs.XmlReads.{ReadsXml, as_tree}
 use Rattle.tree_model.specs.Printing.{added, scope_in, documents_text}
@@ -46,7 +46,7 @@ pub record IsOneDocument (f : Forest Label) : Type 0 where
   pub kids : Forest Label
   pub is : f ≡ tree label attrs kids none
   pub one_element : element_count kids ≡ 1
-  pub no_text : AllTops is_no_text kids
+  pub no_text : AllRoots is_no_text kids
   pub read_again : list_all is_read_again (walk kids) ≡ true
   pub none_added : AddNone first_scope kids
 

@@ -196,14 +196,14 @@ abbrev pub owns : Label → List Label → Bool
 owns label [] = not (is_elem label) || binds_well label []
 owns label (a ∷ attrs) = is_elem label && list_all is_attr (a ∷ attrs) && are_distinct_names (map (λ (b : Label). b.name) (a ∷ attrs)) && binds_well label (a ∷ attrs)
 
-abbrev pub AllTops : {A : Type 0} → (A → Bool) → Forest A → Type 0
-AllTops test none = Unit {0}
-AllTops test (tree label attrs kids rest) = (test label ≡ true) × AllTops test rest
+abbrev pub AllRoots : {A : Type 0} → (A → Bool) → Forest A → Type 0
+AllRoots test none = Unit {0}
+AllRoots test (tree label attrs kids rest) = (test label ≡ true) × AllRoots test rest
 
 -- each tree may have its attributes, and its children may stand below it
 abbrev pub Kept : {A : Type 0} → (A → A → Bool) → (A → List A → Bool) → Forest A → Type 0
 Kept fits owns none = Unit {0}
-Kept fits owns (tree label attrs kids rest) = (owns label attrs ≡ true) × AllTops (fits label) kids × Kept fits owns kids × Kept fits owns rest
+Kept fits owns (tree label attrs kids rest) = (owns label attrs ≡ true) × AllRoots (fits label) kids × Kept fits owns kids × Kept fits owns rest
 
 -- no text stands right before the trees
 abbrev pub begins_no_text : Forest Label → Bool
@@ -237,7 +237,7 @@ with_id_count id labels = count_by (λ (label : Label). nat_eq label.id id) labe
 
 -- all rules but the limit on the number of nodes
 pub record KeepsRules (f : Forest Label) (next : ℕ) : Type 0 where
-  pub roots : AllTops is_doc f
+  pub roots : AllRoots is_doc f
   pub places : Kept fits owns f
   pub nodes : list_all is_good_label (walk f) ≡ true
   pub ids_once : (id : ℕ) → with_id_count id (walk f) ≤ 1
@@ -271,7 +271,7 @@ bears label (a ∷ attrs) = is_elem label && list_all is_attr (a ∷ attrs)
 
 -- what holds of documents whose update isn't complete: texts may also be neighbours, and two documents may have one path
 pub record IsLoose (f : Forest Label) (next : ℕ) : Type 0 where
-  pub roots : AllTops is_doc f
+  pub roots : AllRoots is_doc f
   pub places : Kept fits bears f
   pub nodes : list_all is_loose_label (walk f) ≡ true
   pub ids_once : (id : ℕ) → with_id_count id (walk f) ≤ 1

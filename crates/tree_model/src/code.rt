@@ -134,56 +134,62 @@ impl Code {
     pub const XUDY0029: Code = Code(54);
 
     pub const XUDY0030: Code = Code(55);
-    /// A line has none of the commands' forms, or isn't UTF-8.
-    pub const XKCM0001: Code = Code(56);
-    /// A form that isn't built yet.
-    pub const XKCM0002: Code = Code(57);
 
-    pub const XKDB0001: Code = Code(58);
+    pub const XKDB0002: Code = Code(56);
 
-    pub const XKDB0002: Code = Code(59);
+    pub const XKDB0004: Code = Code(57);
 
-    pub const XKDB0003: Code = Code(60);
+    pub const XKDB0005: Code = Code(58);
 
-    pub const XKDB0004: Code = Code(61);
-
-    pub const XKDB0005: Code = Code(62);
-
-    pub const XKDB0006: Code = Code(63);
-
-    pub const XKFI0001: Code = Code(64);
-
-    pub const XKFI0002: Code = Code(65);
-
-    pub const XKXM0001: Code = Code(66);
-    /// The XML isn't well formed.
-    pub const XKXM0002: Code = Code(67);
-
-    pub const XKXM0003: Code = Code(68);
-
-    pub const XKXM0004: Code = Code(69);
-
-    pub const XKXM0005: Code = Code(70);
-
-    pub const XKXM0006: Code = Code(71);
-    /// A line of more than 2^24 bytes.
-    pub const XKLM0001: Code = Code(72);
-    /// An XML input of more than 2^26 bytes.
-    pub const XKLM0002: Code = Code(73);
     /// More than 2^24 nodes.
-    pub const XKLM0003: Code = Code(74);
+    pub const XKLM0003: Code = Code(59);
 
-    pub const XKLM0004: Code = Code(75);
+    pub const XKLM0004: Code = Code(60);
 
-    pub const XKLM0005: Code = Code(76);
+    pub const XKLM0005: Code = Code(61);
 
-    pub const XKLM0006: Code = Code(77);
+    pub const XKLM0006: Code = Code(62);
 
-    pub const XKLM0007: Code = Code(78);
+    pub const XKLM0007: Code = Code(63);
 
-    pub const XKUP0001: Code = Code(79);
+    pub const XKUP0001: Code = Code(64);
 
-    pub const XKCN0001: Code = Code(80);
+    pub const XKCN0001: Code = Code(65);
+
+    /// A line has none of the commands' forms, or isn't UTF-8.
+    pub const XKCM0001: Code = Code(66);
+
+    /// A form that isn't built yet.
+    pub const XKCM0002: Code = Code(67);
+
+    pub const XKDB0001: Code = Code(68);
+
+    pub const XKDB0003: Code = Code(69);
+
+    pub const XKDB0006: Code = Code(70);
+
+    pub const XKFI0001: Code = Code(71);
+
+    pub const XKFI0002: Code = Code(72);
+
+    pub const XKXM0001: Code = Code(73);
+
+    /// The XML isn't well formed.
+    pub const XKXM0002: Code = Code(74);
+
+    pub const XKXM0003: Code = Code(75);
+
+    pub const XKXM0004: Code = Code(76);
+
+    pub const XKXM0005: Code = Code(77);
+
+    pub const XKXM0006: Code = Code(78);
+
+    /// A line of more than 2^24 bytes.
+    pub const XKLM0001: Code = Code(79);
+
+    /// An XML input of more than 2^26 bytes.
+    pub const XKLM0002: Code = Code(80);
 }
 
 /// A refusal of a command: its code, or want of memory.
@@ -265,30 +271,30 @@ pub fn code_text(code: Code) -> &'static str
         53 => "XUDY0027",
         54 => "XUDY0029",
         55 => "XUDY0030",
-        56 => "XKCM0001",
-        57 => "XKCM0002",
-        58 => "XKDB0001",
-        59 => "XKDB0002",
-        60 => "XKDB0003",
-        61 => "XKDB0004",
-        62 => "XKDB0005",
-        63 => "XKDB0006",
-        64 => "XKFI0001",
-        65 => "XKFI0002",
-        66 => "XKXM0001",
-        67 => "XKXM0002",
-        68 => "XKXM0003",
-        69 => "XKXM0004",
-        70 => "XKXM0005",
-        71 => "XKXM0006",
-        72 => "XKLM0001",
-        73 => "XKLM0002",
-        74 => "XKLM0003",
-        75 => "XKLM0004",
-        76 => "XKLM0005",
-        77 => "XKLM0006",
-        78 => "XKLM0007",
-        79 => "XKUP0001",
-        _ => "XKCN0001",
+        56 => "XKDB0002",
+        57 => "XKDB0004",
+        58 => "XKDB0005",
+        59 => "XKLM0003",
+        60 => "XKLM0004",
+        61 => "XKLM0005",
+        62 => "XKLM0006",
+        63 => "XKLM0007",
+        64 => "XKUP0001",
+        65 => "XKCN0001",
+        66 => "XKCM0001",
+        67 => "XKCM0002",
+        68 => "XKDB0001",
+        69 => "XKDB0003",
+        70 => "XKDB0006",
+        71 => "XKFI0001",
+        72 => "XKFI0002",
+        73 => "XKXM0001",
+        74 => "XKXM0002",
+        75 => "XKXM0003",
+        76 => "XKXM0004",
+        77 => "XKXM0005",
+        78 => "XKXM0006",
+        79 => "XKLM0001",
+        _ => "XKLM0002",
     }
 }

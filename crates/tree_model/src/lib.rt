@@ -3,6 +3,7 @@
 
 mod axis;
 mod code;
+mod function;
 mod item;
 mod laws;
 mod row;
@@ -10,6 +11,7 @@ mod text;
 
 pub use axis::{Axis, AxisStep, Test};
 pub use code::{Code, Refusal, code_text};
+pub use function::Function;
 pub use item::{ArithOp, CompOp, Item, NodeRef, Num, TreeRef};
 pub use laws::{
     equal_flattenings, ids_lead_to_places, sound_documents_are_loose, spelled_trees_are_sound,

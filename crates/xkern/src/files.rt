@@ -35,13 +35,7 @@ fn first_bytes<R: rt::Files + AllocGlobal>(rt: &R, name: &str, most: u64) -> io:
 }
 
 impl<R: rt::Files + AllocGlobal> Files for FileSystem<'_, R> {
-    ghost map = { λ s. None };
-
-    ghost faults = { λ s. s.faults };
-
-    ghost misses = { λ s. s.misses };
-
-    ghost overlong = { λ s. s.overlong };
+    ghost seen = { λ s. record { map = None; faults = s.faults; misses = s.misses; overlong = s.overlong } };
 
     /// Reads one byte more than the limit at most. A path where nothing is counts as a miss, and any other error but
     /// want of memory as a fault.

@@ -18,9 +18,7 @@ impl<R: Read> Reading<R> {
 }
 
 impl<R: Read> Source for Reading<R> {
-    ghost left = { λ s. None };
-
-    ghost faults = { λ s. s.faults };
+    ghost seen = { λ s. record { left = None; faults = s.faults } };
 
     fn read(&mut self, buf: &mut [u8]) -> ReadStep {
         match self.inner.read(buf) {
@@ -49,9 +47,7 @@ impl<W: Write> Writing<W> {
 }
 
 impl<W: Write> Sink for Writing<W> {
-    ghost written = { λ s. None };
-
-    ghost faults = { λ s. s.faults };
+    ghost seen = { λ s. record { written = None; faults = s.faults } };
 
     fn write(&mut self, bytes: &[u8]) -> WriteStep {
         match self.inner.write(bytes) {

@@ -7,7 +7,7 @@ use Rattle.tree_model.specs.Labels.{Label, text_label}
 use Rattle.tree_model.specs.XmlSource.{Part, run, entity, decimal, hexadecimal, part_text}
 use Rattle.tree_model.specs.XmlMeaning.{Pair, Scope, with_attrs, value_in_text, line_ends, is_kept_text, tag_label, attr_label, attr_labels, comm_label, pi_label, is_declaration, plain_attrs}
 use Rattle.xml_pieces.specs.Tokens.{Token, part_token, cdata_token, comm_token, pi_token, open_token, attr_token, quote_token, go_token, shut_token, close_token, token_text}
-use Rattle.xml_rows.specs.Work.{Doing, in_content, in_tag, in_value, Work, top, leaf, with_leaf, with_tag, sized, ended, with_text, gathered_more, works_at, works, all_works, begin_work}
+use Rattle.xml_rows.specs.Work.{Mode, in_content, in_tag, in_value, Work, top, leaf, with_leaf, with_tag, sized, ended, with_text, gathered_more, works_at, works, all_works, begin_work}
 use Rattle.xml_rows.proofs.WorkingTrees.{length-with_tag}
 
 -- the rows that are still to come: one for the text that was gathered, and one for each attribute of the tag
@@ -15,13 +15,13 @@ abbrev pub text_weight : List ℕ → ℕ
 text_weight [] = 0
 text_weight (c ∷ bytes) = 1
 
-abbrev pub doing_weight : Doing → ℕ
-doing_weight in_content = 0
-doing_weight (in_tag tag) = length tag.pairs
-doing_weight (in_value tag key value) = length tag.pairs
+abbrev pub mode_weight : Mode → ℕ
+mode_weight in_content = 0
+mode_weight (in_tag tag) = length tag.pairs
+mode_weight (in_value tag key value) = length tag.pairs
 
 abbrev pub weight : Work → ℕ
-weight w = length w.lines + text_weight w.gathered + doing_weight w.doing
+weight w = length w.lines + text_weight w.gathered + mode_weight w.mode
 
 text_weight-append : (a b : List ℕ) (n : ℕ) → text_weight b ≤ n → text_weight (a ++ b) ≤ text_weight a + n
 text_weight-append [] b n h = omega arith
@@ -80,23 +80,23 @@ pub tag_most : (inside : Scope) (name : List ℕ) (pairs : List Pair) (ls : List
 tag_most inside name pairs ls open_at =
     omega (arith, length-with_tag (tag_label inside name pairs) (attr_labels inside pairs) ls open_at, length-map (plain_attrs pairs) (attr_label inside), plain_most pairs)
 
-step_weight : (strip : Bool) (doing : Doing) (w : Work) (t : Token) → w.doing ≡ doing
-    → weight (works_at strip doing w t) ≤ length w.lines + text_weight w.gathered + doing_weight doing + length (token_text t)
-step_weight strip in_content w (part_token p) is = omega (arith, ap doing_weight is, more_weight w.open_at w.gathered (value_in_text p) (length (part_text p)) (part_weight p))
-step_weight strip in_content w (cdata_token bytes) is = omega (arith, ap doing_weight is, more_weight w.open_at w.gathered (line_ends bytes) 1 (any_weight (line_ends bytes)))
-step_weight strip in_content w (comm_token bytes) is = omega (arith, ap doing_weight is, with_text_most strip w, length-with_leaf (comm_label bytes) (with_text strip w) w.open_at)
-step_weight strip in_content w (pi_token target gap bytes) is = omega (arith, ap doing_weight is, with_text_most strip w, length-with_leaf (pi_label target bytes) (with_text strip w) w.open_at)
+step_weight : (strip : Bool) (mode : Mode) (w : Work) (t : Token) → w.mode ≡ mode
+    → weight (works_at strip mode w t) ≤ length w.lines + text_weight w.gathered + mode_weight mode + length (token_text t)
+step_weight strip in_content w (part_token p) is = omega (arith, ap mode_weight is, more_weight w.open_at w.gathered (value_in_text p) (length (part_text p)) (part_weight p))
+step_weight strip in_content w (cdata_token bytes) is = omega (arith, ap mode_weight is, more_weight w.open_at w.gathered (line_ends bytes) 1 (any_weight (line_ends bytes)))
+step_weight strip in_content w (comm_token bytes) is = omega (arith, ap mode_weight is, with_text_most strip w, length-with_leaf (comm_label bytes) (with_text strip w) w.open_at)
+step_weight strip in_content w (pi_token target gap bytes) is = omega (arith, ap mode_weight is, with_text_most strip w, length-with_leaf (pi_label target bytes) (with_text strip w) w.open_at)
 step_weight strip in_content w (open_token name) is = omega (arith, with_text_most strip w)
-step_weight strip in_content w (close_token name last) is = omega (arith, ap doing_weight is, with_text_most strip w, length-ended w.open_at (with_text strip w))
+step_weight strip in_content w (close_token name last) is = omega (arith, ap mode_weight is, with_text_most strip w, length-ended w.open_at (with_text strip w))
 step_weight strip (in_tag tag) w (attr_token gap key before behind delim) is = omega arith
 step_weight strip (in_tag tag) w (go_token gap) is = omega (arith, tag_most (with_attrs tag.pairs w.scope) tag.name tag.pairs w.lines w.open_at, length-append gap (62 ∷ []))
 step_weight strip (in_tag tag) w (shut_token gap) is = omega (arith, tag_most (with_attrs tag.pairs w.scope) tag.name tag.pairs w.lines w.open_at, length-append gap (47 ∷ 62 ∷ []))
 step_weight strip (in_value tag key value) w (part_token p) is = omega arith
 step_weight strip (in_value tag key value) w (quote_token delim) is = omega (arith, length-append tag.pairs ((key, value) ∷ []))
-step_weight strip doing w t is = omega (arith, ap doing_weight is)
+step_weight strip mode w t is = omega (arith, ap mode_weight is)
 
 -- a piece by itself stays where it is
-pub place_stays : (strip : Bool) (doing : Doing) (w : Work) (t : Token) → (works_at strip doing w t).at ≡ w.at
+pub place_stays : (strip : Bool) (mode : Mode) (w : Work) (t : Token) → (works_at strip mode w t).at ≡ w.at
 place_stays strip in_content w (part_token p) = refl
 place_stays strip in_content w (cdata_token bytes) = refl
 place_stays strip in_content w (comm_token bytes) = refl
@@ -108,7 +108,7 @@ place_stays strip (in_tag tag) w (go_token gap) = refl
 place_stays strip (in_tag tag) w (shut_token gap) = refl
 place_stays strip (in_value tag key value) w (part_token p) = refl
 place_stays strip (in_value tag key value) w (quote_token delim) = refl
-place_stays strip doing w t = refl
+place_stays strip mode w t = refl
 
 -- from a place on, the rows so far and those still to come are one more than the bytes at most
 abbrev pub IsCounted : ℕ → Work → Type 0
@@ -119,7 +119,7 @@ begin_counted from = omega arith
 
 pub works_counted : (strip : Bool) (from : ℕ) (w : Work) (t : Token) → IsCounted from w → IsCounted from (works strip w t)
 unfolding works
-works_counted strip from w t h = omega (arith, step_weight strip w.doing w t refl, place_stays strip w.doing w t)
+works_counted strip from w t h = omega (arith, step_weight strip w.mode w t refl, place_stays strip w.mode w t)
 
 pub all_counted : (strip : Bool) (from : ℕ) (ts : List Token) (w : Work) → IsCounted from w → IsCounted from (all_works strip ts w)
 all_counted strip from [] w h = h
@@ -128,7 +128,7 @@ all_counted strip from (t ∷ ts) w h = all_counted strip from ts (works strip w
 pub works_at_end : (strip : Bool) (ts : List Token) (w : Work) → (all_works strip ts w).at ≡ w.at + length (flat_map token_text ts)
 unfolding works
 works_at_end strip [] w = omega arith
-works_at_end strip (t ∷ ts) w = works_at_end strip ts (works strip w t) ∙ omega (arith, place_stays strip w.doing w t, length-append (token_text t) (flat_map token_text ts))
+works_at_end strip (t ∷ ts) w = works_at_end strip ts (works strip w t) ∙ omega (arith, place_stays strip w.mode w t, length-append (token_text t) (flat_map token_text ts))
 
 -- the rows are one more than the bytes of the pieces at most
 pub lines_most : (strip : Bool) (from : ℕ) (ts : List Token) → length (all_works strip ts (begin_work from)).lines ≤ 1 + length (flat_map token_text ts)

@@ -3,7 +3,7 @@ use Rattle.std.proofs.Common.{◌≡◌, ℕ, ◌<◌, ◌≤◌, Bool, true, fa
 use Rattle.tree_model.specs.Labels.{text_label}
 use Rattle.tree_model.specs.XmlMeaning.{with_attrs, is_kept_text, tag_label, attr_labels, comm_label, pi_label}
 use Rattle.xml_pieces.specs.Tokens.{Token, part_token, cdata_token, comm_token, pi_token, open_token, attr_token, quote_token, go_token, shut_token, close_token}
-use Rattle.xml_rows.specs.Work.{Doing, in_content, in_tag, in_value, Work, top, with_leaf, ended, with_text, less, works_at, works, all_works, begin_work}
+use Rattle.xml_rows.specs.Work.{Mode, in_content, in_tag, in_value, Work, top, with_leaf, ended, with_text, less, works_at, works, all_works, begin_work}
 use Rattle.xml_rows.proofs.WorkingTrees.{length-with_tag}
 use Rattle.xml_rows.proofs.Counting.{length-with_leaf, length-ended}
 
@@ -45,7 +45,7 @@ length-less (x ∷ xs) (y ∷ ys) h = omega (arith, h)
 pub begin_opened : (from : ℕ) → IsOpened (begin_work from)
 begin_opened from = record { below = omega arith; scopes = refl }
 
-step_opened : (strip : Bool) (doing : Doing) (w : Work) (t : Token) → IsOpened w → IsOpened (works_at strip doing w t)
+step_opened : (strip : Bool) (mode : Mode) (w : Work) (t : Token) → IsOpened w → IsOpened (works_at strip mode w t)
 step_opened strip in_content w (part_token p) is = record { below = is.below; scopes = is.scopes }
 step_opened strip in_content w (cdata_token bytes) is = record { below = is.below; scopes = is.scopes }
 step_opened strip in_content w (comm_token bytes) is =
@@ -77,11 +77,11 @@ step_opened strip (in_tag tag) w (shut_token gap) is =
     record { below = below_more (length w.lines) (length (works_at strip (in_tag tag) w (shut_token gap)).lines) w.open_at (omega (arith, e)) is.below; scopes = is.scopes }
 step_opened strip (in_value tag key value) w (part_token p) is = record { below = is.below; scopes = is.scopes }
 step_opened strip (in_value tag key value) w (quote_token delim) is = record { below = is.below; scopes = is.scopes }
-step_opened strip doing w t is = is
+step_opened strip mode w t is = is
 
 pub works_opened : (strip : Bool) (w : Work) (t : Token) → IsOpened w → IsOpened (works strip w t)
 unfolding works
-works_opened strip w t is = let now = step_opened strip w.doing w t is in record { below = now.below; scopes = now.scopes }
+works_opened strip w t is = let now = step_opened strip w.mode w t is in record { below = now.below; scopes = now.scopes }
 
 pub all_opened : (strip : Bool) (ts : List Token) (w : Work) → IsOpened w → IsOpened (all_works strip ts w)
 all_opened strip [] w is = is

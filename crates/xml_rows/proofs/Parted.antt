@@ -22,16 +22,16 @@ use Rattle.xml_rows.specs.Texts.{pending_count, valued_label}
 use Rattle.xml_rows.specs.Values.{Gathered}
 use Rattle.xml_rows.specs.Work as work
 use Rattle.xml_rows.specs.Work.{Work, tag_fault, or_first, first_of, gathered_more, less, outer_scope, with_leaf, works_at, in_content}
-use Rattle.xml_rows.specs.declared.parts.Doing as code
-use Rattle.xml_rows.specs.declared.parts.Doing.TheVariants.{Content, InTag}
+use Rattle.xml_rows.specs.declared.parts.Mode as code
+use Rattle.xml_rows.specs.declared.parts.Mode.TheVariants.{Content, InTag}
 use Rattle.xml_rows.specs.declared.parts.Tag.{Tag}
 use Rattle.xml_rows.proofs.Resolving.{lines_begun}
 use Rattle.xml_rows.proofs.Scoped.{scopes_grown, each_grown}
 
 -- two works are one where their fields are
-pub same_work : (w v : Work) → w.lines ≡ v.lines → w.open_at ≡ v.open_at → w.gathered ≡ v.gathered → w.scope ≡ v.scope → w.outer ≡ v.outer → w.at ≡ v.at → w.fault ≡ v.fault → w.doing ≡ v.doing → w ≡ v
-same_work w v lines open_at gathered scope outer at fault doing =
-    λ i. record { lines = lines i; open_at = open_at i; gathered = gathered i; scope = scope i; outer = outer i; at = at i; fault = fault i; doing = doing i }
+pub same_work : (w v : Work) → w.lines ≡ v.lines → w.open_at ≡ v.open_at → w.gathered ≡ v.gathered → w.scope ≡ v.scope → w.outer ≡ v.outer → w.at ≡ v.at → w.fault ≡ v.fault → w.mode ≡ v.mode → w ≡ v
+same_work w v lines open_at gathered scope outer at fault mode =
+    λ i. record { lines = lines i; open_at = open_at i; gathered = gathered i; scope = scope i; outer = outer i; at = at i; fault = fault i; mode = mode i }
 
 pub or_none : (fault : Option Fault) → or_first fault None ≡ fault
 or_none None = refl
@@ -50,11 +50,11 @@ count_lines (place ∷ up) [] [] = omega arith
 count_lines (place ∷ up) (c ∷ pending) bytes = omega arith
 count_lines (place ∷ up) [] (c ∷ bytes) = omega (arith, count_one (line_ends_from false (c ∷ bytes)))
 
-pub ready_content : (count rows : ℕ) (values : Gathered) (tag : Tag) (doing : code.Doing) → doing ≡ Content → rows + pending_count values.pending ≤ count → IsReady count rows values tag doing
-ready_content count rows values tag doing is le = subst (λ d. IsReady count rows values tag d) (sym is) le
+pub ready_content : (count rows : ℕ) (values : Gathered) (tag : Tag) (mode : code.Mode) → mode ≡ Content → rows + pending_count values.pending ≤ count → IsReady count rows values tag mode
+ready_content count rows values tag mode is le = subst (λ d. IsReady count rows values tag d) (sym is) le
 
-pub content_ready : (count rows : ℕ) (values : Gathered) (tag : Tag) (doing : code.Doing) → doing ≡ Content → IsReady count rows values tag doing → rows + pending_count values.pending ≤ count
-content_ready count rows values tag doing is ready = subst (λ d. IsReady count rows values tag d) is ready
+pub content_ready : (count rows : ℕ) (values : Gathered) (tag : Tag) (mode : code.Mode) → mode ≡ Content → IsReady count rows values tag mode → rows + pending_count values.pending ≤ count
+content_ready count rows values tag mode is ready = subst (λ d. IsReady count rows values tag d) is ready
 
 -- ---- the fault of a reference
 
@@ -105,8 +105,8 @@ hexadecimal_work strip w digits code is =
 
 -- ---- a tag
 
-pub tag_ready : (count rows : ℕ) (values : Gathered) (tag : Tag) (doing : code.Doing) → doing ≡ InTag → IsReady count rows values tag doing → IsTag count rows values tag × (values.pending ≡ [])
-tag_ready count rows values tag doing is ready = subst (λ d. IsReady count rows values tag d) is ready
+pub tag_ready : (count rows : ℕ) (values : Gathered) (tag : Tag) (mode : code.Mode) → mode ≡ InTag → IsReady count rows values tag mode → IsTag count rows values tag × (values.pending ≡ [])
+tag_ready count rows values tag mode is ready = subst (λ d. IsReady count rows values tag d) is ready
 
 pub tag_first : (bad : Bool) (inside : Scope) (at : ℕ) (name : List ℕ) (pairs : List Pair) → bad ≡ is_bad_tag inside name pairs → first_of (tag_faults inside at name pairs) ≡ (if bad then Some (bad_namespace at) else None)
 unfolding tag_faults

@@ -16,9 +16,9 @@ use Rattle.xml_rows.specs.Tagging.{pair_of, pairs_of, IsPair, ArePairs}
 use Rattle.xml_rows.specs.Values.{Gathered}
 use Rattle.xml_rows.specs.Work as work
 use Rattle.xml_rows.specs.Work.{Work, or_first, first_of, works_at, in_value}
-use Rattle.xml_rows.specs.declared.parts.Doing as state
+use Rattle.xml_rows.specs.declared.parts.Mode as state
 use Rattle.xml_rows.specs.declared.parts.Fault as code
-use Rattle.xml_rows.specs.declared.parts.Doing.TheVariants.{InValue}
+use Rattle.xml_rows.specs.declared.parts.Mode.TheVariants.{InValue}
 use Rattle.xml_rows.specs.declared.parts.Tag.{Tag}
 use Rattle.xml_rows.specs.declared.tag.Pair.{Pair}
 use Rattle.xml_rows.proofs.Parted.{or_none}
@@ -31,11 +31,11 @@ pub record IsValue (count rows : ℕ) (values : Gathered) (tag : Tag) : Type 0 w
   pub text : IsUtf8 values.pending
   pub key : is_xml_qname tag.key.now ≡ true
 
-pub value_ready : (count rows : ℕ) (values : Gathered) (tag : Tag) (doing : state.Doing) → doing ≡ InValue → IsReady count rows values tag doing → IsValue count rows values tag
-value_ready count rows values tag doing is ready = let all : IsReady count rows values tag InValue = subst (λ d. IsReady count rows values tag d) is ready in record { kept = all.0; text = all.1; key = all.2 }
+pub value_ready : (count rows : ℕ) (values : Gathered) (tag : Tag) (mode : state.Mode) → mode ≡ InValue → IsReady count rows values tag mode → IsValue count rows values tag
+value_ready count rows values tag mode is ready = let all : IsReady count rows values tag InValue = subst (λ d. IsReady count rows values tag d) is ready in record { kept = all.0; text = all.1; key = all.2 }
 
-pub ready_value : (count rows : ℕ) (values : Gathered) (tag : Tag) (doing : state.Doing) → doing ≡ InValue → IsValue count rows values tag → IsReady count rows values tag doing
-ready_value count rows values tag doing is kept = subst (λ d. IsReady count rows values tag d) (sym is) (kept.kept, kept.text, kept.key)
+pub ready_value : (count rows : ℕ) (values : Gathered) (tag : Tag) (mode : state.Mode) → mode ≡ InValue → IsValue count rows values tag → IsReady count rows values tag mode
+ready_value count rows values tag mode is kept = subst (λ d. IsReady count rows values tag d) (sym is) (kept.kept, kept.text, kept.key)
 
 -- more bytes of the value
 pub value_more : (count rows : ℕ) (values more : Gathered) (tag : Tag) (text : List ℕ) → more.settled ≡ values.settled → more.pending ≡ values.pending ++ text → IsUtf8 text → IsValue count rows values tag → IsValue count rows more tag
@@ -59,24 +59,24 @@ value_within count rows values tag other name pairs key kept = record {
 
 -- ---- the work
 
-no_fault : (w : Work) (tag : work.Tag) (key value : List ℕ) (faults : List Fault) → faults ≡ [] → record w { doing = in_value tag key value } ≡ record w { doing = in_value (record tag { within = or_first tag.within (first_of faults) }) key value }
-no_fault w tag key value faults none = ap (λ f. record w { doing = in_value (record tag { within = f }) key value }) (sym (ap (λ l. or_first tag.within (first_of l)) none ∙ or_none tag.within))
+no_fault : (w : Work) (tag : work.Tag) (key value : List ℕ) (faults : List Fault) → faults ≡ [] → record w { mode = in_value tag key value } ≡ record w { mode = in_value (record tag { within = or_first tag.within (first_of faults) }) key value }
+no_fault w tag key value faults none = ap (λ f. record w { mode = in_value (record tag { within = f }) key value }) (sym (ap (λ l. or_first tag.within (first_of l)) none ∙ or_none tag.within))
 
-pub value_run : (w : Work) (tag : work.Tag) (key value bytes : List ℕ) → record w { doing = in_value tag key (value ++ spaced bytes) } ≡ works_at true (in_value tag key value) w (part_token (run bytes))
+pub value_run : (w : Work) (tag : work.Tag) (key value bytes : List ℕ) → record w { mode = in_value tag key (value ++ spaced bytes) } ≡ works_at true (in_value tag key value) w (part_token (run bytes))
 unfolding part_faults
 value_run w tag key value bytes = no_fault w tag key (value ++ spaced bytes) (part_faults w.at (run bytes)) refl
 
-pub value_decimal : (w : Work) (tag : work.Tag) (key value digits : List ℕ) (code : ℕ) → code ≡ number_from 10 0 digits → record w { doing = in_value tag key (value ++ encode_utf8 code) } ≡ works_at true (in_value tag key value) w (part_token (decimal digits))
+pub value_decimal : (w : Work) (tag : work.Tag) (key value digits : List ℕ) (code : ℕ) → code ≡ number_from 10 0 digits → record w { mode = in_value tag key (value ++ encode_utf8 code) } ≡ works_at true (in_value tag key value) w (part_token (decimal digits))
 unfolding part_faults char_value
-value_decimal w tag key value digits code is = ap (λ n. record w { doing = in_value tag key (value ++ encode_utf8 n) }) is ∙ no_fault w tag key (value ++ char_value 10 digits) (part_faults w.at (decimal digits)) refl
+value_decimal w tag key value digits code is = ap (λ n. record w { mode = in_value tag key (value ++ encode_utf8 n) }) is ∙ no_fault w tag key (value ++ char_value 10 digits) (part_faults w.at (decimal digits)) refl
 
-pub value_hexadecimal : (w : Work) (tag : work.Tag) (key value digits : List ℕ) (code : ℕ) → code ≡ number_from 16 0 digits → record w { doing = in_value tag key (value ++ encode_utf8 code) } ≡ works_at true (in_value tag key value) w (part_token (hexadecimal digits))
+pub value_hexadecimal : (w : Work) (tag : work.Tag) (key value digits : List ℕ) (code : ℕ) → code ≡ number_from 16 0 digits → record w { mode = in_value tag key (value ++ encode_utf8 code) } ≡ works_at true (in_value tag key value) w (part_token (hexadecimal digits))
 unfolding part_faults char_value
-value_hexadecimal w tag key value digits code is = ap (λ n. record w { doing = in_value tag key (value ++ encode_utf8 n) }) is ∙ no_fault w tag key (value ++ char_value 16 digits) (part_faults w.at (hexadecimal digits)) refl
+value_hexadecimal w tag key value digits code is = ap (λ n. record w { mode = in_value tag key (value ++ encode_utf8 n) }) is ∙ no_fault w tag key (value ++ char_value 16 digits) (part_faults w.at (hexadecimal digits)) refl
 
-pub doing_entity : (tag : Tag) (settled grown pending more text : List ℕ) (within : Option code.Fault) (fault : Option Fault) → grown ≡ settled → faults_of within ≡ fault → more ≡ pending ++ text
+pub mode_entity : (tag : Tag) (settled grown pending more text : List ℕ) (within : Option code.Fault) (fault : Option Fault) → grown ≡ settled → faults_of within ≡ fault → more ≡ pending ++ text
     → in_value (tag_of grown (record tag { within = within })) tag.key.now more ≡ in_value (record (tag_of settled tag) { within = fault }) tag.key.now (pending ++ text)
-doing_entity tag settled grown pending more text within fault e1 e2 e3 =
+mode_entity tag settled grown pending more text within fault e1 e2 e3 =
     ap (λ s. in_value (tag_of s (record tag { within = within })) tag.key.now more) e1 ∙ ap (λ f. in_value (record (tag_of settled tag) { within = f }) tag.key.now more) e2
     ∙ ap (in_value (record (tag_of settled tag) { within = fault }) tag.key.now) e3
 

@@ -195,8 +195,8 @@ module _ (strip : Bool) (d : Source) (w : Work) (is : IsBody (body_of d)) (made_
   pub body_open_at : w.open_at ≡ []
   body_open_at = ap (λ (x : Work). x.open_at) at_end
 
-  pub body_doing : w.doing ≡ in_content
-  body_doing = ap (λ (x : Work). x.doing) at_end
+  pub body_mode : w.mode ≡ in_content
+  body_mode = ap (λ (x : Work). x.mode) at_end
 
   pub body_length : w.at ≡ length (source_text d)
   body_length = ap (λ (x : Work). x.at) at_end

@@ -6,7 +6,7 @@ use Rattle.tree_model.specs.Labels.{Label}
 use Rattle.tree_model.specs.XmlSource.{Part, part_text, parts_text, Attr, attr_head, attr_source}
 use Rattle.tree_model.specs.XmlMeaning.{Pair, Scope, pair_of, value_in_attr, Fault, part_faults, parts_faults, attrs_faults}
 use Rattle.xml_pieces.specs.Tokens.{Token, part_token, quote_token, attr_tokens}
-use Rattle.xml_rows.specs.Work.{or_first, first_of, Tag, Doing, in_tag, in_value, Work, works, all_works}
+use Rattle.xml_rows.specs.Work.{or_first, first_of, Tag, Mode, in_tag, in_value, Work, works, all_works}
 
 pub works-append : (strip : Bool) (ts us : List Token) (w : Work) → all_works strip (ts ++ us) w ≡ all_works strip us (all_works strip ts w)
 works-append strip [] us w = refl
@@ -28,9 +28,9 @@ first-append (x ∷ xs) ys = refl
 
 -- ---- attributes
 
-abbrev pub made : List (Line Label) → List ℕ → List ℕ → Scope → List Scope → ℕ → Option Fault → Doing → Work
-made ls open_at gathered scope outer at fault doing =
-    record { lines = ls; open_at = open_at; gathered = gathered; scope = scope; outer = outer; at = at; fault = fault; doing = doing }
+abbrev pub made : List (Line Label) → List ℕ → List ℕ → Scope → List Scope → ℕ → Option Fault → Mode → Work
+made ls open_at gathered scope outer at fault mode =
+    record { lines = ls; open_at = open_at; gathered = gathered; scope = scope; outer = outer; at = at; fault = fault; mode = mode }
 
 abbrev pub tag_with : List ℕ → ℕ → List Pair → Option Fault → Tag
 tag_with name from pairs within = record { name = name; from = from; pairs = pairs; within = within }

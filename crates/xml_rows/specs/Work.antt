@@ -21,11 +21,11 @@ pub record Tag : Type 0 where
   pub pairs : List Pair
   pub within : Option Fault
 
-pub data Doing : Type 0 where
-  in_content : Doing
-  in_tag : (tag : Tag) → Doing
+pub data Mode : Type 0 where
+  in_content : Mode
+  in_tag : (tag : Tag) → Mode
   -- in the value of an attribute, with its name and its value so far
-  in_value : (tag : Tag) → (key : List ℕ) → (value : List ℕ) → Doing
+  in_value : (tag : Tag) → (key : List ℕ) → (value : List ℕ) → Mode
 
 -- the rows so far; the places of the open elements, the innermost first; the text that was gathered behind the last row; the prefixes in
 -- scope, and those outside of each open element; the place of the next byte; the first fault so far
@@ -37,7 +37,7 @@ pub record Work : Type 0 where
   pub outer : List Scope
   pub at : ℕ
   pub fault : Option Fault
-  pub doing : Doing
+  pub mode : Mode
 
 -- where the parent of the next row stands
 abbrev pub top : List ℕ → ℕ
@@ -92,17 +92,17 @@ abbrev pub tag_fault : Scope → Tag → Option Fault
 tag_fault inside tag = or_first (first_of (tag_faults inside tag.from tag.name tag.pairs)) tag.within
 
 -- a piece by itself, without the place behind it
-abbrev pub works_at : Bool → Doing → Work → Token → Work
+abbrev pub works_at : Bool → Mode → Work → Token → Work
 works_at strip in_content w (part_token p) =
     record w { gathered = gathered_more w.open_at w.gathered (value_in_text p); fault = or_first w.fault (first_of (part_faults w.at p)) }
 works_at strip in_content w (cdata_token bytes) = record w { gathered = gathered_more w.open_at w.gathered (line_ends bytes) }
 works_at strip in_content w (comm_token bytes) = record w { lines = with_leaf (comm_label bytes) (with_text strip w) w.open_at; gathered = [] }
 works_at strip in_content w (pi_token target gap bytes) = record w { lines = with_leaf (pi_label target bytes) (with_text strip w) w.open_at; gathered = [] }
 works_at strip in_content w (open_token name) =
-    record w { lines = with_text strip w; gathered = []; doing = in_tag (record { name = name; from = w.at; pairs = []; within = None }) }
+    record w { lines = with_text strip w; gathered = []; mode = in_tag (record { name = name; from = w.at; pairs = []; within = None }) }
 works_at strip in_content w (close_token name last) =
     record w { lines = ended w.open_at (with_text strip w); gathered = []; open_at = less w.open_at; scope = outer_scope w.scope w.outer; outer = less w.outer }
-works_at strip (in_tag tag) w (attr_token gap key before behind delim) = record w { doing = in_value tag key [] }
+works_at strip (in_tag tag) w (attr_token gap key before behind delim) = record w { mode = in_value tag key [] }
 works_at strip (in_tag tag) w (go_token gap) =
     let inside = with_attrs tag.pairs w.scope in
     record w {
@@ -111,26 +111,26 @@ works_at strip (in_tag tag) w (go_token gap) =
       scope = inside;
       outer = w.scope ∷ w.outer;
       fault = or_first w.fault (tag_fault inside tag);
-      doing = in_content;
+      mode = in_content;
     }
 works_at strip (in_tag tag) w (shut_token gap) =
     let inside = with_attrs tag.pairs w.scope in
     record w {
       lines = with_tag (tag_label inside tag.name tag.pairs) (attr_labels inside tag.pairs) w.lines w.open_at;
       fault = or_first w.fault (tag_fault inside tag);
-      doing = in_content;
+      mode = in_content;
     }
 works_at strip (in_value tag key value) w (part_token p) =
-    record w { doing = in_value (record tag { within = or_first tag.within (first_of (part_faults w.at p)) }) key (value ++ value_in_attr p) }
-works_at strip (in_value tag key value) w (quote_token delim) = record w { doing = in_tag (record tag { pairs = tag.pairs ++ (key, value) ∷ [] }) }
-works_at strip doing w token = w
+    record w { mode = in_value (record tag { within = or_first tag.within (first_of (part_faults w.at p)) }) key (value ++ value_in_attr p) }
+works_at strip (in_value tag key value) w (quote_token delim) = record w { mode = in_tag (record tag { pairs = tag.pairs ++ (key, value) ∷ [] }) }
+works_at strip mode w token = w
 
 -- and the next one begins behind it
 abbrev pub behind : Token → Work → Work
 behind t w = record w { at = w.at + length (token_text t) }
 
 unfoldable pub works : Bool → Work → Token → Work
-works strip w t = behind t (works_at strip w.doing w t)
+works strip w t = behind t (works_at strip w.mode w t)
 
 abbrev pub all_works : Bool → List Token → Work → Work
 all_works strip [] w = w
@@ -139,7 +139,7 @@ all_works strip (t ∷ ts) w = all_works strip ts (works strip w t)
 -- the row of the document alone, before the byte at a place
 abbrev pub begin_work : ℕ → Work
 begin_work at =
-    record { lines = leaf 0 0 (doc_label []) ∷ []; open_at = []; gathered = []; scope = first_scope; outer = []; at = at; fault = None; doing = in_content }
+    record { lines = leaf 0 0 (doc_label []) ∷ []; open_at = []; gathered = []; scope = first_scope; outer = []; at = at; fault = None; mode = in_content }
 
 -- all rows, once the document ends at the last of them
 abbrev pub finished : Work → List (Line Label)

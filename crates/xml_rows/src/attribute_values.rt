@@ -13,17 +13,17 @@ ghost use Rattle.xml_rows.specs.Work.{works_at, in_value};
 
 use crate::characters::{decimal_char, hexadecimal_char};
 use crate::content::{entity_fault, first_fault};
-use crate::parts::{Doing, Parts};
+use crate::parts::{Mode, Parts};
 use crate::tag::Pair;
 use tree_model::NoMemory;
 use xml_pieces::Piece;
 
 impl<'a> Parts<'a> {
     fn value_text(&mut self, bytes: &[u8]) -> Result<(), NoMemory>
-        requires doing { self.old.doing ≡ Doing.InValue }
+        requires mode { self.old.mode ≡ Mode.InValue }
         requires tidy { IsTidy self.old.at self.old }
         requires text { IsUtf8 bytes.now }
-        ensures work { OnOk result (parts_work self.new ≡ record (parts_work self.old) { doing = in_value (tag_of self.old.values.settled self.old.tag) self.old.tag.key.now (self.old.values.pending ++ meaning.spaced bytes.now) }) }
+        ensures work { OnOk result (parts_work self.new ≡ record (parts_work self.old) { mode = in_value (tag_of self.old.values.settled self.old.tag) self.old.tag.key.now (self.old.values.pending ++ meaning.spaced bytes.now) }) }
         ensures tidy { OnOk result (IsTidy self.old.at self.new) }
         ensures at { OnOk result (self.new.at ≡ self.old.at) }
     {
@@ -32,9 +32,9 @@ impl<'a> Parts<'a> {
     }
 
     fn value_character(&mut self, code: char) -> Result<(), NoMemory>
-        requires doing { self.old.doing ≡ Doing.InValue }
+        requires mode { self.old.mode ≡ Mode.InValue }
         requires tidy { IsTidy self.old.at self.old }
-        ensures work { OnOk result (parts_work self.new ≡ record (parts_work self.old) { doing = in_value (tag_of self.old.values.settled self.old.tag) self.old.tag.key.now (self.old.values.pending ++ encode_utf8 code) }) }
+        ensures work { OnOk result (parts_work self.new ≡ record (parts_work self.old) { mode = in_value (tag_of self.old.values.settled self.old.tag) self.old.tag.key.now (self.old.values.pending ++ encode_utf8 code) }) }
         ensures tidy { OnOk result (IsTidy self.old.at self.new) }
         ensures at { OnOk result (self.new.at ≡ self.old.at) }
     {
@@ -43,7 +43,7 @@ impl<'a> Parts<'a> {
     }
 
     fn value_entity(&mut self, name: &[u8]) -> Result<(), NoMemory>
-        requires doing { self.old.doing ≡ Doing.InValue }
+        requires mode { self.old.mode ≡ Mode.InValue }
         requires tidy { IsTidy self.old.at self.old }
         requires named { is_xml_ncname name.now ≡ true }
         ensures work { OnOk result (parts_work self.new ≡ works_at true (in_value (tag_of self.old.values.settled self.old.tag) self.old.tag.key.now self.old.values.pending) (parts_work self.old) (token.part_token (entity name.now))) }
@@ -57,7 +57,7 @@ impl<'a> Parts<'a> {
 
     // The value is whole.
     fn quote(&mut self) -> Result<(), NoMemory>
-        requires doing { self.old.doing ≡ Doing.InValue }
+        requires mode { self.old.mode ≡ Mode.InValue }
         requires tidy { IsTidy self.old.at self.old }
         ensures work { OnOk result (parts_work self.new ≡ works_at true (in_value (tag_of self.old.values.settled self.old.tag) self.old.tag.key.now self.old.values.pending) (parts_work self.old) (token.quote_token 0)) }
         ensures tidy { OnOk result (IsTidy self.old.at self.new) }
@@ -66,13 +66,13 @@ impl<'a> Parts<'a> {
         let name = self.tag.key;
         let val = self.values.settle();
         self.tag.pairs.push(Pair { name, val })?;
-        self.doing = Doing::InTag;
+        self.mode = Mode::InTag;
         Ok(())
     }
 
     /// A piece of the value of an attribute. Others are passed over.
     pub fn take_value(&mut self, piece: Piece<'a>) -> Result<(), NoMemory>
-        requires doing { self.old.doing ≡ Doing.InValue }
+        requires mode { self.old.mode ≡ Mode.InValue }
         requires tidy { IsTidy self.old.at self.old }
         requires fit { IsFit (token_of piece) }
         ensures work { OnOk result (parts_work self.new ≡ works_at true (in_value (tag_of self.old.values.settled self.old.tag) self.old.tag.key.now self.old.values.pending) (parts_work self.old) (token_of piece.entry)) }

@@ -10,7 +10,7 @@ ghost use Rattle.xml_rows.specs.Work.{works, begin_work, finished};
 use crate::declarations::XML_URI;
 use crate::elements::Elements;
 use crate::names::Names;
-use crate::parts::{Doing, Fault, Parts, Tag, text_len};
+use crate::parts::{Fault, Mode, Parts, Tag, text_len};
 use crate::rows::Rows;
 use crate::scope::Scopes;
 use crate::values::Values;
@@ -32,10 +32,10 @@ impl<'a> Parts<'a> {
         ensures at { OnOk result (self.new.at ≡ self.old.at + length (token_text (token_of piece.entry))) }
     {
         let len = text_len(&piece);
-        match self.doing {
-            Doing::Content => self.take_content(piece, strip)?,
-            Doing::InTag => self.take_tag(piece)?,
-            Doing::InValue => self.take_value(piece)?,
+        match self.mode {
+            Mode::Content => self.take_content(piece, strip)?,
+            Mode::InTag => self.take_tag(piece)?,
+            Mode::InValue => self.take_value(piece)?,
         }
         self.at += len;
         Ok(())
@@ -94,7 +94,7 @@ impl<'a> Builder<'a> {
                 within: None,
                 key: &[],
             },
-            doing: Doing::Content,
+            mode: Mode::Content,
             at,
             fault: None,
         };
@@ -148,7 +148,7 @@ impl<'a> Builder<'a> {
             elements,
             mut values,
             tag: _,
-            doing: _,
+            mode: _,
             at: _,
             fault: _,
         } = Box::into_inner(parts);

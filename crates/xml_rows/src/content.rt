@@ -11,7 +11,7 @@ ghost use Rattle.xml_rows.specs.BuilderView.{parts_work, faults_of, IsTidy};
 ghost use Rattle.xml_rows.specs.Work.{or_first, first_of, gathered_more, works_at, in_content};
 
 use crate::characters::{decimal_char, hexadecimal_char};
-use crate::parts::{Doing, Fault, Parts};
+use crate::parts::{Fault, Mode, Parts};
 use crate::texts::{add_valued, flush, gather, gather_char, gather_entity};
 use tree_model::{Kind, NoMemory};
 use xml_pieces::Piece;
@@ -38,7 +38,7 @@ pub fn entity_fault(is_known: bool, at: usize) -> Option<Fault>
 
 impl<'a> Parts<'a> {
     fn text(&mut self, bytes: &[u8]) -> Result<(), NoMemory>
-        requires doing { self.old.doing ≡ Doing.Content }
+        requires mode { self.old.mode ≡ Mode.Content }
         requires tidy { IsTidy self.old.at self.old }
         ensures work { OnOk result (parts_work self.new ≡ record (parts_work self.old) { gathered = gathered_more (parts_work self.old).open_at (parts_work self.old).gathered (meaning.line_ends bytes.now) }) }
         ensures tidy { OnOk result (IsTidy (self.old.at + length bytes.now) self.new) }
@@ -48,7 +48,7 @@ impl<'a> Parts<'a> {
     }
 
     fn character(&mut self, code: char) -> Result<(), NoMemory>
-        requires doing { self.old.doing ≡ Doing.Content }
+        requires mode { self.old.mode ≡ Mode.Content }
         requires tidy { IsTidy self.old.at self.old }
         ensures work { OnOk result (parts_work self.new ≡ record (parts_work self.old) { gathered = gathered_more (parts_work self.old).open_at (parts_work self.old).gathered (encode_utf8 code) }) }
         ensures tidy { OnOk result (IsTidy (self.old.at + 1) self.new) }
@@ -58,7 +58,7 @@ impl<'a> Parts<'a> {
     }
 
     fn entity(&mut self, name: &[u8]) -> Result<(), NoMemory>
-        requires doing { self.old.doing ≡ Doing.Content }
+        requires mode { self.old.mode ≡ Mode.Content }
         requires tidy { IsTidy self.old.at self.old }
         ensures work { OnOk result (parts_work self.new ≡ record (parts_work self.old) {
           gathered = gathered_more (parts_work self.old).open_at (parts_work self.old).gathered (meaning.entity_value name.now);
@@ -72,7 +72,7 @@ impl<'a> Parts<'a> {
     }
 
     fn comment(&mut self, bytes: &[u8], strip: bool) -> Result<(), NoMemory>
-        requires doing { self.old.doing ≡ Doing.Content }
+        requires mode { self.old.mode ≡ Mode.Content }
         requires tidy { IsTidy self.old.at self.old }
         requires few { self.old.at < 2 ^ 31 }
         ensures work { OnOk result (parts_work self.new ≡ works_at strip in_content (parts_work self.old) (token.comm_token bytes.now)) }
@@ -97,7 +97,7 @@ impl<'a> Parts<'a> {
         bytes: &[u8],
         strip: bool,
     ) -> Result<(), NoMemory>
-        requires doing { self.old.doing ≡ Doing.Content }
+        requires mode { self.old.mode ≡ Mode.Content }
         requires tidy { IsTidy self.old.at self.old }
         requires few { self.old.at < 2 ^ 31 }
         requires named { is_xml_ncname target.now ≡ true }
@@ -118,7 +118,7 @@ impl<'a> Parts<'a> {
     }
 
     fn open(&mut self, name: &'a [u8], strip: bool) -> Result<(), NoMemory>
-        requires doing { self.old.doing ≡ Doing.Content }
+        requires mode { self.old.mode ≡ Mode.Content }
         requires tidy { IsTidy self.old.at self.old }
         requires few { self.old.at < 2 ^ 31 }
         requires named { is_xml_qname name.now ≡ true }
@@ -131,12 +131,12 @@ impl<'a> Parts<'a> {
         self.tag.from = self.at;
         self.tag.pairs.clear();
         self.tag.within = None;
-        self.doing = Doing::InTag;
+        self.mode = Mode::InTag;
         Ok(())
     }
 
     fn close(&mut self, name: &[u8], last: &[u8], strip: bool) -> Result<(), NoMemory>
-        requires doing { self.old.doing ≡ Doing.Content }
+        requires mode { self.old.mode ≡ Mode.Content }
         requires tidy { IsTidy self.old.at self.old }
         requires few { self.old.at < 2 ^ 31 }
         ensures work { OnOk result (parts_work self.new ≡ works_at strip in_content (parts_work self.old) (token.close_token name.now last.now)) }
@@ -151,7 +151,7 @@ impl<'a> Parts<'a> {
 
     /// A piece of content. Others are passed over.
     pub fn take_content(&mut self, piece: Piece<'a>, strip: bool) -> Result<(), NoMemory>
-        requires doing { self.old.doing ≡ Doing.Content }
+        requires mode { self.old.mode ≡ Mode.Content }
         requires tidy { IsTidy self.old.at self.old }
         requires few { self.old.at < 2 ^ 31 }
         requires fit { IsFit (token_of piece) }

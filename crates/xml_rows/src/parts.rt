@@ -20,7 +20,7 @@ pub enum Fault {
 
 /// What the next piece stands in.
 #[derive(Clone, Copy)]
-pub enum Doing {
+pub enum Mode {
     Content,
     InTag,
     InValue,
@@ -43,7 +43,7 @@ pub struct Parts<'a> {
     pub elements: Elements<'a>,
     pub values: Values,
     pub tag: Tag<'a>,
-    pub doing: Doing,
+    pub mode: Mode,
     pub at: usize,
     pub fault: Option<Fault>,
 }

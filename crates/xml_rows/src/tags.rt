@@ -10,7 +10,7 @@ ghost use Rattle.xml_rows.specs.Numbers.{Begins};
 ghost use Rattle.xml_rows.specs.Work.{works_at, in_tag, in_value};
 
 use crate::content::first_fault;
-use crate::parts::{Doing, Fault, Parts};
+use crate::parts::{Fault, Mode, Parts};
 use tree_model::NoMemory;
 use xml_pieces::Piece;
 
@@ -26,19 +26,19 @@ fn tag_fault(is_bad: bool, at: usize) -> Option<Fault>
 
 impl<'a> Parts<'a> {
     fn attribute(&mut self, name: &'a [u8])
-        requires doing { self.old.doing ≡ Doing.InTag }
+        requires mode { self.old.mode ≡ Mode.InTag }
         requires tidy { IsTidy self.old.at self.old }
         requires named { is_xml_qname name.now ≡ true }
-        ensures work { parts_work self.new ≡ record (parts_work self.old) { doing = in_value (tag_of self.old.values.settled self.old.tag) name.now [] } }
+        ensures work { parts_work self.new ≡ record (parts_work self.old) { mode = in_value (tag_of self.old.values.settled self.old.tag) name.now [] } }
         ensures tidy { IsTidy (self.old.at + 1) self.new }
     {
         self.tag.key = name;
-        self.doing = Doing::InValue;
+        self.mode = Mode::InValue;
     }
 
     // The rows of a tag, and its fault.
     fn tag_rows(&mut self) -> Result<(), NoMemory>
-        requires doing { self.old.doing ≡ Doing.InTag }
+        requires mode { self.old.mode ≡ Mode.InTag }
         requires tidy { IsTidy self.old.at self.old }
         requires few { self.old.at < 2 ^ 31 }
         ensures work { OnOk result (parts_work self.new ≡ tag_done (parts_work self.old) (tag_of self.old.values.settled self.old.tag)) }
@@ -46,7 +46,7 @@ impl<'a> Parts<'a> {
         ensures outer { OnOk result (self.new.elements.scopes.outer ≡ self.old.elements.scopes.scope ∷ self.old.elements.scopes.outer) }
         ensures uris { OnOk result (Begins self.old.elements.names.uris self.new.elements.names.uris) }
         ensures more { OnOk result (length self.old.elements.rows.rows < length self.new.elements.rows.rows) }
-        ensures doing { OnOk result (self.new.doing ≡ Doing.Content) }
+        ensures mode { OnOk result (self.new.mode ≡ Mode.Content) }
         ensures at { OnOk result (self.new.at ≡ self.old.at) }
     {
         let is_bad = self
@@ -54,12 +54,12 @@ impl<'a> Parts<'a> {
             .add_tag(self.tag.name, &self.tag.pairs, &mut self.values)?;
         let fault = first_fault(tag_fault(is_bad, self.tag.from), self.tag.within);
         self.fault = first_fault(self.fault, fault);
-        self.doing = Doing::Content;
+        self.mode = Mode::Content;
         Ok(())
     }
 
     fn go(&mut self, gap: &[u8]) -> Result<(), NoMemory>
-        requires doing { self.old.doing ≡ Doing.InTag }
+        requires mode { self.old.mode ≡ Mode.InTag }
         requires tidy { IsTidy self.old.at self.old }
         requires few { self.old.at < 2 ^ 31 }
         ensures work { OnOk result (parts_work self.new ≡ works_at true (in_tag (tag_of self.old.values.settled self.old.tag)) (parts_work self.old) (token.go_token gap.now)) }
@@ -73,7 +73,7 @@ impl<'a> Parts<'a> {
     }
 
     fn shut(&mut self, gap: &[u8]) -> Result<(), NoMemory>
-        requires doing { self.old.doing ≡ Doing.InTag }
+        requires mode { self.old.mode ≡ Mode.InTag }
         requires tidy { IsTidy self.old.at self.old }
         requires few { self.old.at < 2 ^ 31 }
         ensures work { OnOk result (parts_work self.new ≡ works_at true (in_tag (tag_of self.old.values.settled self.old.tag)) (parts_work self.old) (token.shut_token gap.now)) }
@@ -87,7 +87,7 @@ impl<'a> Parts<'a> {
 
     /// A piece of a tag. Others are passed over.
     pub fn take_tag(&mut self, piece: Piece<'a>) -> Result<(), NoMemory>
-        requires doing { self.old.doing ≡ Doing.InTag }
+        requires mode { self.old.mode ≡ Mode.InTag }
         requires tidy { IsTidy self.old.at self.old }
         requires few { self.old.at < 2 ^ 31 }
         requires fit { IsFit (token_of piece) }

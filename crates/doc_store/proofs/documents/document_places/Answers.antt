@@ -1,5 +1,5 @@
 use Rattle.std.proofs.Common.{◌≡◌, ◌∙◌, ◌+◌, ◌++◌, ap, arith}
-use Rattle.doc_store.specs.Places.{tops_between}
+use Rattle.doc_store.specs.Places.{roots_between}
 use Rattle.doc_store.specs.Stored.{stored_lines}
 use Rattle.doc_store.proofs.DocumentPlaces.{Walks, Passed, begun, passed, all_to_list, more_listed, all_listed}
 use Rattle.doc_store.proofs.documents.document_places.Goals as goal
@@ -11,7 +11,7 @@ pub loop-at-init : goal.loop-at-init
 loop-at-init c = record {
   walks = start c;
   sofar =
-      ap (λ l. l ++ tops_between (stored_lines c.args.database.now) 0 c.len-end.result) c.new-places.ensures.items
+      ap (λ l. l ++ roots_between (stored_lines c.args.database.now) 0 c.len-end.result) c.new-places.ensures.items
       ∙ all_to_list c.args.database.now c.reader-reader.result c.len-end.result (start c);
 }
 
@@ -28,7 +28,7 @@ pub loop-at-preserved : goal.loop-at-preserved
 loop-at-preserved c = record {
   walks = (step c).walks;
   sofar =
-      ap (λ l. l ++ tops_between (stored_lines c.args.database.now) (c.loop-at.at + c.row-at.result.size) c.len-end.result) c.in_ok-push.ensures.items
+      ap (λ l. l ++ roots_between (stored_lines c.args.database.now) (c.loop-at.at + c.row-at.result.size) c.len-end.result) c.in_ok-push.ensures.items
       ∙ more_listed (stored_lines c.args.database.now) c.loop-at.at c.len-end.result _ c.loop-at.places.items _ (step c).turn c.loop-at.invariant.sofar;
 }
 

@@ -1,21 +1,12 @@
-use Rattle.std.proofs.Common.{◌+◌, ◌-◌}
-use Rattle.std.specs.Prelude.{slice_range}
-use Rattle.std.specs.Io.KnownBytes.{prepend_known}
-use Rattle.frame_pool.specs.Meters.{HasRead}
-use Rattle.kernel_session.specs.Sessions.{HasServed}
-use Rattle.kernel_session.specs.Steps.{workspace}
+use Rattle.kernel_session.specs.Lines.{behind, pending, stock}
+use Rattle.kernel_session.specs.Serving.{IsServing}
+use Rattle.kernel_session.specs.Workspaces.{workspace, state_of}
 use Rattle.kernel_session.proofs.session.serve_lines.Given as goal
 
 abbrev pub invariant-lines : goal.invariant-lines
-invariant-lines g l = record {
-  served : HasServed (workspace l.fn.kernel (g.F.Files.map l.fn.files) (g.F.Files.faults l.fn.files) (g.F.Files.misses l.fn.files) (g.F.Files.overlong l.fn.files))
-      (workspace l.kernel (g.F.Files.map l.files) (g.F.Files.faults l.files) (g.F.Files.misses l.files) (g.F.Files.overlong l.files)) (g.S.Source.left l.fn.source)
-      (prepend_known (slice_range l.reader.buffer.items l.reader.start l.reader.end) (g.S.Source.left l.source))
-      (g.S.Source.faults l.fn.source) (g.S.Source.faults l.source)
-      (l.reader.room + (l.reader.end - l.reader.start))
-      (g.K.Sink.written l.fn.sink) (g.K.Sink.written l.sink) (g.K.Sink.faults l.fn.sink) (g.K.Sink.faults l.sink) l.refused;
-  meter : HasRead l.fn.meter l.meter;
-}
+invariant-lines g l =
+    IsServing l.options (workspace (state_of l.fn.kernel) (g.F.Files.seen l.fn.files) l.fn.meter) (workspace (state_of l.kernel) (g.F.Files.seen l.files) l.meter)
+    (g.S.Source.seen l.fn.script) (behind (pending l.reader) (g.S.Source.seen l.script)) (g.K.Sink.seen l.fn.sink) (g.K.Sink.seen l.sink) (stock l.reader) l.refused
 
 abbrev pub decreases-lines : goal.decreases-lines
-decreases-lines g l = l.reader.room + (l.reader.end - l.reader.start)
+decreases-lines g l = stock l.reader

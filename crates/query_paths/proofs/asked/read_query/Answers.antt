@@ -1,4 +1,4 @@
-use Rattle.query_paths.proofs.Codes.{refuses}
+use Rattle.query_paths.proofs.Refused.{refuses}
 use Rattle.query_paths.proofs.asked.read_query.Goals as goal
 
 pub returns-in-Err : goal.returns-in-Err

@@ -5,10 +5,10 @@ use Rattle.query_syntax.proofs.reading.read.Goals as goal
 
 pub returns-in-Ok : goal.returns-in-Ok
 returns-in-Ok c =
-    let same = read_is (record { query = c.args.text; closings = c.as_slice.result; room = limit }) c.in_ok-closings.closings.items refl c.as_slice.ensures.value c.in_ok-closings.ensures in
+    let same = read_is (record { query = c.args.text; comment_ends = c.as_slice.result; room = limit }) c.in_ok-ends.ends.items refl c.as_slice.ensures.value c.in_ok-ends.ensures in
     (c.in-Ok.field-0-1.now, sym same ∙ c.in-Ok.ensures)
 
 pub returns : goal.returns
 returns c other =
-    let same = read_is (record { query = c.args.text; closings = c.as_slice.result; room = limit }) c.in_ok-closings.closings.items refl c.as_slice.ensures.value c.in_ok-closings.ensures in
+    let same = read_is (record { query = c.args.text; comment_ends = c.as_slice.result; room = limit }) c.in_ok-ends.ends.items refl c.as_slice.ensures.value c.in_ok-ends.ensures in
     sym same ∙ c.in-Err.ensures other

@@ -1,4 +1,4 @@
-use Rattle.name_resolver.proofs.Equations.{gives_along, additive_is, and_is, call_is, comma_is, comparison_is, computed_by_value_is, computed_is, computed_unnamed_is, delete_is, element_is, filter_is, flwor_is, if_is, insert_is, intersection_is, multiplicative_is, or_is, parenthesized_is, path_is, quantified_is, range_is, rename_is, replace_is, unary_is, union_is}
+use Rattle.name_resolver.proofs.Equations.{gives_along, axis_step_is, additive_is, and_is, call_is, comma_is, comparison_is, computed_by_value_is, computed_is, computed_unnamed_is, delete_is, element_is, filter_is, flwor_is, if_is, insert_is, intersection_is, multiplicative_is, or_is, parenthesized_is, path_is, quantified_is, range_is, rename_is, replace_is, unary_is, union_is}
 use Rattle.name_resolver.proofs.resolver.Resolver.expression.Goals as goal
 
 pub returns-in-Comma : goal.returns-in-Comma
@@ -71,7 +71,10 @@ pub returns-in-ComputedUnnamed : goal.returns-in-ComputedUnnamed
 returns-in-ComputedUnnamed g c = rw c.in-ComputedUnnamed.is (gives_along _ _ _ _ _ (λ b. computed_unnamed_is _ _ _ b) (rw c.get-in-ComputedUnnamed.ensures at c.computed_unnamed.ensures))
 
 pub returns-in-Call : goal.returns-in-Call
-returns-in-Call g c = rw c.in-Call.is (gives_along _ _ _ _ _ (λ b. call_is _ _ _ b) (rw c.as_slice-in-Call.ensures at c.call.ensures))
+returns-in-Call g c = rw c.in-Call.is (gives_along _ _ _ _ _ (λ b. call_is _ _ _ c.in-Call.function b) (rw c.as_slice-in-Call.ensures at c.call.ensures))
+
+pub returns-in-AxisStep : goal.returns-in-AxisStep
+returns-in-AxisStep g c = rw c.in-AxisStep.is (gives_along _ _ _ _ _ (λ b. axis_step_is _ _ _ c.in-AxisStep.tested b) c.axis_step.ensures)
 
 pub returns-in-Element : goal.returns-in-Element
 returns-in-Element g c = rw c.in-Element.is (gives_along _ _ _ _ _ (λ b. element_is _ _ _ _ b) (rw (c.as_slice-in-Element.ensures, c.as_slice-in-Element-2.ensures) at c.element.ensures))

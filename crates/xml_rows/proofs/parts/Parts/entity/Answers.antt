@@ -10,4 +10,4 @@ pub returns-clause-work : goal.returns-clause-work
 returns-clause-work c =
     let fault = c.first_fault-self.ensures
     ∙ ap (or_first (faults_of c.args.self.now.fault)) (c.entity_fault.ensures ∙ ap (λ b. if b then None else Some (unknown_entity c.args.self.now.at)) c.in_ok-is_known.ensures.known ∙ sym (entity_first c.args.self.now.at c.args.name.now)) in
-    same_work _ _ (search rules) refl (rw c.requires.doing c.in_ok-is_known.ensures.pending) refl refl refl fault (rw c.requires.doing refl)
+    same_work _ _ (search rules) refl (rw c.requires.mode c.in_ok-is_known.ensures.pending) refl refl refl fault (rw c.requires.mode refl)

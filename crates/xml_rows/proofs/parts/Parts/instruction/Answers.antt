@@ -24,17 +24,17 @@ returns-clause-work c =
     (c.in_ok-add_valued.ensures.lines c.local_number.new.self.names (placed_begun names c.local_number.new.self.names _ _ c.local_number.ensures.names flushed_placed)) in
     let opened = ap (with_leaf (valued_label Pi (local_name c.args.target.now) (line_ends c.args.bytes.now)) (flushed c.args.strip c.args.self.now.values.pending (lines_of names c.args.self.now.values.settled c.args.self.now.elements.rows.rows) c.args.self.now.elements.rows.open_at))
     c.in_ok-flush.ensures.open_at in
-    same_work _ _ (rw c.requires.doing (lines ∙ opened)) (c.in_ok-add_valued.ensures.open_at ∙ c.in_ok-flush.ensures.open_at) (rw c.requires.doing c.in_ok-add_valued.ensures.pending)
-    (ap (λ u. scope_in u c.args.self.now.elements.scopes.scope) c.local_number.ensures.uris) (ap (λ u. scopes_in u c.args.self.now.elements.scopes.outer) c.local_number.ensures.uris) refl refl (rw c.requires.doing refl)
+    same_work _ _ (rw c.requires.mode (lines ∙ opened)) (c.in_ok-add_valued.ensures.open_at ∙ c.in_ok-flush.ensures.open_at) (rw c.requires.mode c.in_ok-add_valued.ensures.pending)
+    (ap (λ u. scope_in u c.args.self.now.elements.scopes.scope) c.local_number.ensures.uris) (ap (λ u. scopes_in u c.args.self.now.elements.scopes.outer) c.local_number.ensures.uris) refl refl (rw c.requires.mode refl)
 
 pub returns-clause-tidy : goal.returns-clause-tidy
 returns-clause-tidy c =
     let names = c.args.self.now.elements.names.names in
     let flushed_placed : ArePlaced names c.flush.new.values.settled c.flush.new.rows.rows = c.in_ok-flush.ensures.placed names c.unnamed-unnamed.ensures.within c.requires.tidy.placed in
-    let before = content_ready _ _ c.args.self.now.values c.args.self.now.tag c.args.self.now.doing c.requires.doing c.requires.tidy.ready in
+    let before = content_ready _ _ c.args.self.now.values c.args.self.now.tag c.args.self.now.mode c.requires.mode c.requires.tidy.ready in
     record {
       placed = c.in_ok-add_valued.ensures.placed c.local_number.new.self.names c.in_ok-name.ensures.within (placed_begun names c.local_number.new.self.names _ _ c.local_number.ensures.names flushed_placed);
       uris = rw c.local_number.ensures.uris c.requires.tidy.uris;
       outer = rw c.local_number.ensures.uris c.requires.tidy.outer;
-      ready = ready_content _ _ c.add_valued.new.values c.args.self.now.tag c.args.self.now.doing c.requires.doing (omega (arith, before, c.in_ok-flush.ensures.len, c.in_ok-add_valued.ensures.len, ap pending_count c.in_ok-add_valued.ensures.pending));
+      ready = ready_content _ _ c.add_valued.new.values c.args.self.now.tag c.args.self.now.mode c.requires.mode (omega (arith, before, c.in_ok-flush.ensures.len, c.in_ok-add_valued.ensures.len, ap pending_count c.in_ok-add_valued.ensures.pending));
     }

@@ -13,9 +13,9 @@ pub returns-clause-work : goal.returns-clause-work
 returns-clause-work c =
     let pair : Pair = record { name = c.args.self.now.tag.key; val = c.settle-val.result } in
     let values = c.args.self.now.values in
-    let kept = value_ready _ _ values c.args.self.now.tag c.args.self.now.doing c.requires.doing c.requires.tidy.ready in
+    let kept = value_ready _ _ values c.args.self.now.tag c.args.self.now.mode c.requires.mode c.requires.tidy.ready in
     same_work _ _
-    (ap (λ l. lines_of c.args.self.now.elements.names.names l c.args.self.now.elements.rows.rows) c.settle-val.ensures.settled ∙ lines_valued _ values.settled values.pending _ c.requires.tidy.placed) refl (rw c.requires.doing refl) refl refl refl refl
+    (ap (λ l. lines_of c.args.self.now.elements.names.names l c.args.self.now.elements.rows.rows) c.settle-val.ensures.settled ∙ lines_valued _ values.settled values.pending _ c.requires.tidy.placed) refl (rw c.requires.mode refl) refl refl refl refl
     (ap (λ l. in_tag (record (tag_of values.settled c.args.self.now.tag) { pairs = l }))
     (pairs_quoted values.settled values.pending c.settle-val.new.self.settled c.args.self.now.tag.pairs.items c.push.new.self.items pair c.settle-val.ensures.settled c.in_ok-push.ensures.items c.settle-val.ensures.at c.settle-val.ensures.len
     kept.kept.pairs))
@@ -24,7 +24,7 @@ pub returns-clause-tidy : goal.returns-clause-tidy
 returns-clause-tidy c =
     let pair : Pair = record { name = c.args.self.now.tag.key; val = c.settle-val.result } in
     let values = c.args.self.now.values in
-    let kept = value_ready _ _ values c.args.self.now.tag c.args.self.now.doing c.requires.doing c.requires.tidy.ready in
+    let kept = value_ready _ _ values c.args.self.now.tag c.args.self.now.mode c.requires.mode c.requires.tidy.ready in
     record {
       placed = valued_placed _ values.settled values.pending _ _ c.settle-val.ensures.settled c.requires.tidy.placed;
       uris = c.requires.tidy.uris;

@@ -7,7 +7,7 @@ use Rattle.xml_rows.proofs.parts.Parts.tag_rows.Goals as goal
 pub returns-clause-work : goal.returns-clause-work
 returns-clause-work c =
     same_work _ _ (rw c.deref.ensures.value at (c.in_ok-is_bad.ensures.lines c.requires.tidy.placed)) c.in_ok-is_bad.ensures.open_at
-    (rw c.requires.doing c.in_ok-is_bad.ensures.pending) (rw c.deref.ensures.value at c.in_ok-is_bad.ensures.scope)
+    (rw c.requires.mode c.in_ok-is_bad.ensures.pending) (rw c.deref.ensures.value at c.in_ok-is_bad.ensures.scope)
     (outer_entered c.args.self.now.elements.names.uris c.add_tag.new.self.names.uris c.args.self.now.elements.scopes.scope c.args.self.now.elements.scopes.outer c.add_tag.new.self.scopes.outer c.in_ok-is_bad.ensures.uris_more
     c.requires.tidy.uris c.requires.tidy.outer c.in_ok-is_bad.ensures.outer)
     refl
@@ -16,7 +16,7 @@ returns-clause-work c =
 
 pub returns-clause-tidy : goal.returns-clause-tidy
 returns-clause-tidy c =
-    let kept = tag_ready _ _ c.args.self.now.values c.args.self.now.tag c.args.self.now.doing c.requires.doing c.requires.tidy.ready in
+    let kept = tag_ready _ _ c.args.self.now.values c.args.self.now.tag c.args.self.now.mode c.requires.mode c.requires.tidy.ready in
     record {
       placed = c.in_ok-is_bad.ensures.placed c.requires.tidy.placed;
       uris = c.in_ok-is_bad.ensures.uris_kept;

@@ -7,6 +7,6 @@ returns-clause-tidy c = record {
   placed = rw c.in_ok-add_char.ensures.settled c.requires.tidy.placed;
   uris = c.requires.tidy.uris;
   outer = c.requires.tidy.outer;
-  ready = ready_value _ _ c.add_char.new.self c.args.self.now.tag c.args.self.now.doing c.requires.doing
-      (value_more _ _ c.args.self.now.values c.add_char.new.self c.args.self.now.tag _ c.in_ok-add_char.ensures.settled c.in_ok-add_char.ensures.pending (IsUtf8-encode c.args.code c.ranges.code.0) (value_ready _ _ c.args.self.now.values c.args.self.now.tag c.args.self.now.doing c.requires.doing c.requires.tidy.ready));
+  ready = ready_value _ _ c.add_char.new.self c.args.self.now.tag c.args.self.now.mode c.requires.mode
+      (value_more _ _ c.args.self.now.values c.add_char.new.self c.args.self.now.tag _ c.in_ok-add_char.ensures.settled c.in_ok-add_char.ensures.pending (IsUtf8-encode c.args.code c.ranges.code.0) (value_ready _ _ c.args.self.now.values c.args.self.now.tag c.args.self.now.mode c.requires.mode c.requires.tidy.ready));
 }

@@ -1,0 +1,2 @@
+-- What answers determine.
+pub mod Determined
