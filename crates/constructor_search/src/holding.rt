@@ -3,7 +3,7 @@ ghost use Rattle.std.specs.Prelude.{◌≡◌, map};
 ghost use Rattle.query_terms.specs.Constructors as spec;
 ghost use Rattle.std.specs.Option.{option_map};
 ghost use Rattle.query_terms.specs.Constructors.{some, maybe};
-ghost use Rattle.constructor_search.specs.Parts.{in_one_clause, in_one_operand, in_one_key, in_one_step};
+ghost use Rattle.query_terms.specs.Folds.{clause_value, key_value, operand_value, step_value};
 
 use query_terms::{Clause, Expr, Operand, OrderKey, PathStep};
 use sqlite_items::Boxed;
@@ -22,7 +22,7 @@ fn any_expression(parts: &[Expr]) -> bool
 
 #[cycle(holding)]
 fn any_clause(parts: &[Clause]) -> bool
-    ensures { result ≡ some (map in_one_clause parts.now) }
+    ensures { result ≡ some (map (clause_value spec.holding) parts.now) }
 {
     for part in parts {
         if in_clause(part) {
@@ -34,7 +34,7 @@ fn any_clause(parts: &[Clause]) -> bool
 
 #[cycle(holding)]
 fn any_operand(parts: &[Operand]) -> bool
-    ensures { result ≡ some (map in_one_operand parts.now) }
+    ensures { result ≡ some (map (operand_value spec.holding) parts.now) }
 {
     for part in parts {
         if in_operand(part) {
@@ -46,7 +46,7 @@ fn any_operand(parts: &[Operand]) -> bool
 
 #[cycle(holding)]
 fn any_key(parts: &[OrderKey]) -> bool
-    ensures { result ≡ some (map in_one_key parts.now) }
+    ensures { result ≡ some (map (key_value spec.holding) parts.now) }
 {
     for part in parts {
         if in_key(part) {
@@ -58,7 +58,7 @@ fn any_key(parts: &[OrderKey]) -> bool
 
 #[cycle(holding)]
 fn any_step(parts: &[PathStep]) -> bool
-    ensures { result ≡ some (map in_one_step parts.now) }
+    ensures { result ≡ some (map (step_value spec.holding) parts.now) }
 {
     for part in parts {
         if in_step(part) {
@@ -79,9 +79,9 @@ fn in_option(part: &Option<Boxed<Expr>>) -> bool
 }
 
 #[cycle(holding)]
-#[tactic(auto, using(crate::proofs::HoldingEquations::parts))]
+#[tactic(auto, using(query_terms::proofs::Folds::by_part))]
 fn in_clause(clause: &Clause) -> bool
-    ensures { result ≡ in_one_clause clause.now }
+    ensures { result ≡ clause_value spec.holding clause.now }
 {
     match clause {
         Clause::For { source, .. } => holds_constructor(source.get()),
@@ -90,25 +90,25 @@ fn in_clause(clause: &Clause) -> bool
 }
 
 #[cycle(holding)]
-#[tactic(auto, using(crate::proofs::HoldingEquations::parts))]
+#[tactic(auto, using(query_terms::proofs::Folds::by_part))]
 fn in_operand(operand: &Operand) -> bool
-    ensures { result ≡ in_one_operand operand.now }
+    ensures { result ≡ operand_value spec.holding operand.now }
 {
     holds_constructor(operand.operand.get())
 }
 
 #[cycle(holding)]
-#[tactic(auto, using(crate::proofs::HoldingEquations::parts))]
+#[tactic(auto, using(query_terms::proofs::Folds::by_part))]
 fn in_key(key: &OrderKey) -> bool
-    ensures { result ≡ in_one_key key.now }
+    ensures { result ≡ key_value spec.holding key.now }
 {
     holds_constructor(key.key.get())
 }
 
 #[cycle(holding)]
-#[tactic(auto, using(crate::proofs::HoldingEquations::parts))]
+#[tactic(auto, using(query_terms::proofs::Folds::by_part))]
 fn in_step(step: &PathStep) -> bool
-    ensures { result ≡ in_one_step step.now }
+    ensures { result ≡ step_value spec.holding step.now }
 {
     holds_constructor(step.step.get())
 }
@@ -116,7 +116,7 @@ fn in_step(step: &PathStep) -> bool
 /// Whether an element, attribute, text, comment, document or processing instruction is constructed anywhere in the
 /// expression (XQuery 1.0, section 3.7).
 #[cycle(holding)]
-#[tactic(auto, using(crate::proofs::HoldingEquations::by_kind))]
+#[tactic(auto, using(query_terms::proofs::Folds::by_kind))]
 pub fn holds_constructor(e: &Expr) -> bool
     ensures { result ≡ spec.holds_constructor e.now }
 {

@@ -53,7 +53,7 @@ impl<F: Fn(Global, usize, &mut Environment, &Expr) -> Result<Expr, NoMemory>> Re
         }
     }
 
-    #[tactic(auto, using(crate::proofs::Equations::operand_is))]
+    #[tactic(auto, using(query_terms::proofs::Folds::operand_is))]
     pub(crate) fn operand(
         &self,
         environment: &mut Environment,
@@ -68,7 +68,7 @@ impl<F: Fn(Global, usize, &mut Environment, &Expr) -> Result<Expr, NoMemory>> Re
         })
     }
 
-    #[tactic(auto, using(crate::proofs::Equations::step_is))]
+    #[tactic(auto, using(query_terms::proofs::Folds::step_is))]
     pub(crate) fn step(
         &self,
         environment: &mut Environment,
@@ -83,7 +83,7 @@ impl<F: Fn(Global, usize, &mut Environment, &Expr) -> Result<Expr, NoMemory>> Re
         })
     }
 
-    #[tactic(auto, using(crate::proofs::Equations::key_is))]
+    #[tactic(auto, using(query_terms::proofs::Folds::key_is))]
     pub(crate) fn key(
         &self,
         environment: &mut Environment,
@@ -99,7 +99,7 @@ impl<F: Fn(Global, usize, &mut Environment, &Expr) -> Result<Expr, NoMemory>> Re
         })
     }
 
-    #[tactic(auto, using(crate::proofs::Equations::by_part))]
+    #[tactic(auto, using(query_terms::proofs::Folds::by_part))]
     pub(crate) fn clause(
         &self,
         environment: &mut Environment,
@@ -128,7 +128,7 @@ impl<F: Fn(Global, usize, &mut Environment, &Expr) -> Result<Expr, NoMemory>> Re
         }
     }
 
-    #[tactic(auto, using(crate::proofs::Equations::by_part))]
+    #[tactic(auto, using(query_terms::proofs::Folds::by_part))]
     pub(crate) fn content(
         &self,
         environment: &mut Environment,
@@ -249,7 +249,7 @@ impl<F: Fn(Global, usize, &mut Environment, &Expr) -> Result<Expr, NoMemory>> Re
         Ok(done)
     }
 
-    #[tactic(auto, using(crate::proofs::Equations::attribute_is))]
+    #[tactic(auto, using(query_terms::proofs::Folds::attribute_is))]
     pub(crate) fn attribute(
         &self,
         environment: &mut Environment,

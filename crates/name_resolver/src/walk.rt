@@ -13,7 +13,7 @@ use tree_model::NoMemory;
 
 impl<F: Fn(Global, usize, &mut Environment, &Expr) -> Result<Expr, NoMemory>> Resolver<F> {
     // Each kind of expression by itself.
-    #[tactic(auto, using(crate::proofs::Equations::by_kind))]
+    #[tactic(auto, using(query_terms::proofs::Folds::by_kind))]
     fn expression(&self, environment: &mut Environment, e: &Expr) -> Result<Expr, NoMemory>
         requires { Resolves self.now.depth (F.pre self.now.resolve) (F.post self.now.resolve) }
         ensures { Gives (spec.resolved e.now) result environment.old environment.new }

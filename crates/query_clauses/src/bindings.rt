@@ -13,12 +13,6 @@ use sqlite_items::{Boxed, Items};
 use std::alloc::Global;
 use tree_model::NoMemory;
 
-/// A place to read expressions at that begin with a word of their own.
-#[derive(Clone, Copy)]
-pub struct ClauseReader<'a, F> {
-    pub descent: Descent<'a, F>,
-}
-
 #[tactic(auto, unfolding(query_terms::specs::Grammar::position_variable))]
 fn position<'a>(source: &QuerySource<'a>, rest: &'a str) -> Option<(WrittenVariable<'a>, &'a str)>
     ensures { Reads as_variable (at source.now spec.position_variable rest.now) result }
@@ -73,177 +67,211 @@ pub(crate) fn with_others(
     Ok(found)
 }
 
-impl<
+#[tactic(auto, unfolding(query_terms::specs::Grammar::bound_items))]
+pub(crate) fn bound_items<
     'a,
     F: Fn(Global, QuerySource<'a>, Nest, &'a str) -> Result<(Boxed<Expr>, &'a str), Stop>,
-> ClauseReader<'a, F> {
-    #[tactic(auto, unfolding(query_terms::specs::Grammar::bound_items))]
-    pub(crate) fn bound_items(&self, rest: &'a str) -> Result<(Boxed<Expr>, &'a str), Stop>
-        requires { Nests self.now.descent.source (F.pre self.now.descent.nested) (F.post self.now.descent.nested) }
-        ensures { Opens term (at self.now.descent.source spec.bound_items rest.now) result }
-    {
-        let after = self.descent.blanks(rest);
-        let after = self.descent.keyword(after, "in")?;
-        self.descent.single(after)
-    }
+>(descent: &Descent<'a, F>, rest: &'a str) -> Result<(Boxed<Expr>, &'a str), Stop>
+    requires { Nests descent.now.source (F.pre descent.now.nested) (F.post descent.now.nested) }
+    ensures { Opens term (at descent.now.source spec.bound_items rest.now) result }
+{
+    let after = descent.blanks(rest);
+    let after = descent.keyword(after, "in")?;
+    descent.single(after)
+}
 
-    #[tactic(auto, unfolding(query_terms::specs::Grammar::for_variable))]
-    fn for_variable(&self, rest: &'a str) -> Result<(Clause, &'a str), Stop>
-        requires { Nests self.now.descent.source (F.pre self.now.descent.nested) (F.post self.now.descent.nested) }
-        ensures { Opens clause (at self.now.descent.source spec.for_variable rest.now) result }
-    {
-        let (variable, after) = self.descent.source.variable(rest).ok_or(Stop::Refused)?;
-        let (position, after) = maybe_position(&self.descent.source, after);
-        let (source, after) = self.bound_items(after)?;
-        let bound = for_term(self.descent.alloc, variable, position, source)?;
-        Ok((bound, after))
-    }
+#[tactic(auto, unfolding(query_terms::specs::Grammar::for_variable))]
+fn for_variable<
+    'a,
+    F: Fn(Global, QuerySource<'a>, Nest, &'a str) -> Result<(Boxed<Expr>, &'a str), Stop>,
+>(descent: &Descent<'a, F>, rest: &'a str) -> Result<(Clause, &'a str), Stop>
+    requires { Nests descent.now.source (F.pre descent.now.nested) (F.post descent.now.nested) }
+    ensures { Opens clause (at descent.now.source spec.for_variable rest.now) result }
+{
+    let (variable, after) = descent.source.variable(rest).ok_or(Stop::Refused)?;
+    let (position, after) = maybe_position(&descent.source, after);
+    let (source, after) = bound_items(descent, after)?;
+    let bound = for_term(descent.alloc, variable, position, source)?;
+    Ok((bound, after))
+}
 
-    #[tactic(auto, unfolding(query_terms::specs::Grammar::next_for_variable))]
-    fn next_for_variable(&self, rest: &'a str) -> Result<(Clause, &'a str), Stop>
-        requires { Nests self.now.descent.source (F.pre self.now.descent.nested) (F.post self.now.descent.nested) }
-        ensures { Opens clause (at self.now.descent.source spec.next_for_variable rest.now) result }
-    {
-        let after = self.descent.blanks(rest);
-        let after = self.descent.word(after, ",")?;
-        let after = self.descent.blanks(after);
-        self.for_variable(after)
-    }
+#[tactic(auto, unfolding(query_terms::specs::Grammar::next_for_variable))]
+fn next_for_variable<
+    'a,
+    F: Fn(Global, QuerySource<'a>, Nest, &'a str) -> Result<(Boxed<Expr>, &'a str), Stop>,
+>(descent: &Descent<'a, F>, rest: &'a str) -> Result<(Clause, &'a str), Stop>
+    requires { Nests descent.now.source (F.pre descent.now.nested) (F.post descent.now.nested) }
+    ensures { Opens clause (at descent.now.source spec.next_for_variable rest.now) result }
+{
+    let after = descent.blanks(rest);
+    let after = descent.word(after, ",")?;
+    let after = descent.blanks(after);
+    for_variable(descent, after)
+}
 
-    fn next_for_variables(&self, rest: &'a str) -> Result<(Items<Clause>, &'a str), Stop>
-        requires { Nests self.now.descent.source (F.pre self.now.descent.nested) (F.post self.now.descent.nested) }
-        ensures { Gathers spec.clauses_in (at self.now.descent.source (many spec.next_for_variable) rest.now) result }
-    {
-        let mut found = Items::new(self.descent.alloc);
-        let mut after = rest;
-        for _turn in 0..rest.len() + 1 {
-            match self.next_for_variable(after) {
-                Ok((item, next)) => {
-                    found.push(item)?;
-                    after = next;
-                }
-                Err(Stop::Refused) => return Ok((found, after)),
-                Err(Stop::TooDeep) => return Err(Stop::TooDeep),
-                Err(Stop::NoMemory) => return Err(Stop::NoMemory),
+fn next_for_variables<
+    'a,
+    F: Fn(Global, QuerySource<'a>, Nest, &'a str) -> Result<(Boxed<Expr>, &'a str), Stop>,
+>(descent: &Descent<'a, F>, rest: &'a str) -> Result<(Items<Clause>, &'a str), Stop>
+    requires { Nests descent.now.source (F.pre descent.now.nested) (F.post descent.now.nested) }
+    ensures { Gathers spec.clauses_in (at descent.now.source (many spec.next_for_variable) rest.now) result }
+{
+    let mut found = Items::new(descent.alloc);
+    let mut after = rest;
+    for _turn in 0..rest.len() + 1 {
+        match next_for_variable(descent, after) {
+            Ok((item, next)) => {
+                found.push(item)?;
+                after = next;
             }
+            Err(Stop::Refused) => return Ok((found, after)),
+            Err(Stop::TooDeep) => return Err(Stop::TooDeep),
+            Err(Stop::NoMemory) => return Err(Stop::NoMemory),
         }
-        Ok((found, after))
     }
+    Ok((found, after))
+}
 
-    #[tactic(auto, unfolding(query_terms::specs::Grammar::for_clause))]
-    fn for_clause(&self, rest: &'a str) -> Result<(Items<Clause>, &'a str), Stop>
-        requires { Nests self.now.descent.source (F.pre self.now.descent.nested) (F.post self.now.descent.nested) }
-        ensures { Opens clauses (at self.now.descent.source spec.for_clause rest.now) result }
-    {
-        let after = self.descent.keyword(rest, "for")?;
-        let (first, after) = self.for_variable(after)?;
-        let (others, after) = self.next_for_variables(after)?;
-        Ok((with_others(self.descent.alloc, first, others)?, after))
-    }
+#[tactic(auto, unfolding(query_terms::specs::Grammar::for_clause))]
+fn for_clause<
+    'a,
+    F: Fn(Global, QuerySource<'a>, Nest, &'a str) -> Result<(Boxed<Expr>, &'a str), Stop>,
+>(descent: &Descent<'a, F>, rest: &'a str) -> Result<(Items<Clause>, &'a str), Stop>
+    requires { Nests descent.now.source (F.pre descent.now.nested) (F.post descent.now.nested) }
+    ensures { Opens clauses (at descent.now.source spec.for_clause rest.now) result }
+{
+    let after = descent.keyword(rest, "for")?;
+    let (first, after) = for_variable(descent, after)?;
+    let (others, after) = next_for_variables(descent, after)?;
+    Ok((with_others(descent.alloc, first, others)?, after))
+}
 
-    #[tactic(auto, unfolding(query_terms::specs::Grammar::let_variable))]
-    fn let_variable(&self, rest: &'a str) -> Result<(Clause, &'a str), Stop>
-        requires { Nests self.now.descent.source (F.pre self.now.descent.nested) (F.post self.now.descent.nested) }
-        ensures { Opens clause (at self.now.descent.source spec.let_variable rest.now) result }
-    {
-        let (variable, after) = self.descent.source.variable(rest).ok_or(Stop::Refused)?;
-        let after = self.descent.blanks(after);
-        let after = self.descent.word(after, ":=")?;
-        let after = self.descent.blanks(after);
-        let (value, after) = self.descent.single(after)?;
-        let variable = variable.store(self.descent.alloc)?;
-        Ok((Clause::Let { variable, value }, after))
-    }
+#[tactic(auto, unfolding(query_terms::specs::Grammar::let_variable))]
+fn let_variable<
+    'a,
+    F: Fn(Global, QuerySource<'a>, Nest, &'a str) -> Result<(Boxed<Expr>, &'a str), Stop>,
+>(descent: &Descent<'a, F>, rest: &'a str) -> Result<(Clause, &'a str), Stop>
+    requires { Nests descent.now.source (F.pre descent.now.nested) (F.post descent.now.nested) }
+    ensures { Opens clause (at descent.now.source spec.let_variable rest.now) result }
+{
+    let (variable, after) = descent.source.variable(rest).ok_or(Stop::Refused)?;
+    let after = descent.blanks(after);
+    let after = descent.word(after, ":=")?;
+    let after = descent.blanks(after);
+    let (value, after) = descent.single(after)?;
+    let variable = variable.store(descent.alloc)?;
+    Ok((Clause::Let { variable, value }, after))
+}
 
-    #[tactic(auto, unfolding(query_terms::specs::Grammar::next_let_variable))]
-    fn next_let_variable(&self, rest: &'a str) -> Result<(Clause, &'a str), Stop>
-        requires { Nests self.now.descent.source (F.pre self.now.descent.nested) (F.post self.now.descent.nested) }
-        ensures { Opens clause (at self.now.descent.source spec.next_let_variable rest.now) result }
-    {
-        let after = self.descent.blanks(rest);
-        let after = self.descent.word(after, ",")?;
-        let after = self.descent.blanks(after);
-        self.let_variable(after)
-    }
+#[tactic(auto, unfolding(query_terms::specs::Grammar::next_let_variable))]
+fn next_let_variable<
+    'a,
+    F: Fn(Global, QuerySource<'a>, Nest, &'a str) -> Result<(Boxed<Expr>, &'a str), Stop>,
+>(descent: &Descent<'a, F>, rest: &'a str) -> Result<(Clause, &'a str), Stop>
+    requires { Nests descent.now.source (F.pre descent.now.nested) (F.post descent.now.nested) }
+    ensures { Opens clause (at descent.now.source spec.next_let_variable rest.now) result }
+{
+    let after = descent.blanks(rest);
+    let after = descent.word(after, ",")?;
+    let after = descent.blanks(after);
+    let_variable(descent, after)
+}
 
-    fn next_let_variables(&self, rest: &'a str) -> Result<(Items<Clause>, &'a str), Stop>
-        requires { Nests self.now.descent.source (F.pre self.now.descent.nested) (F.post self.now.descent.nested) }
-        ensures { Gathers spec.clauses_in (at self.now.descent.source (many spec.next_let_variable) rest.now) result }
-    {
-        let mut found = Items::new(self.descent.alloc);
-        let mut after = rest;
-        for _turn in 0..rest.len() + 1 {
-            match self.next_let_variable(after) {
-                Ok((item, next)) => {
-                    found.push(item)?;
-                    after = next;
-                }
-                Err(Stop::Refused) => return Ok((found, after)),
-                Err(Stop::TooDeep) => return Err(Stop::TooDeep),
-                Err(Stop::NoMemory) => return Err(Stop::NoMemory),
+fn next_let_variables<
+    'a,
+    F: Fn(Global, QuerySource<'a>, Nest, &'a str) -> Result<(Boxed<Expr>, &'a str), Stop>,
+>(descent: &Descent<'a, F>, rest: &'a str) -> Result<(Items<Clause>, &'a str), Stop>
+    requires { Nests descent.now.source (F.pre descent.now.nested) (F.post descent.now.nested) }
+    ensures { Gathers spec.clauses_in (at descent.now.source (many spec.next_let_variable) rest.now) result }
+{
+    let mut found = Items::new(descent.alloc);
+    let mut after = rest;
+    for _turn in 0..rest.len() + 1 {
+        match next_let_variable(descent, after) {
+            Ok((item, next)) => {
+                found.push(item)?;
+                after = next;
             }
+            Err(Stop::Refused) => return Ok((found, after)),
+            Err(Stop::TooDeep) => return Err(Stop::TooDeep),
+            Err(Stop::NoMemory) => return Err(Stop::NoMemory),
         }
-        Ok((found, after))
     }
+    Ok((found, after))
+}
 
-    #[tactic(auto, unfolding(query_terms::specs::Grammar::let_clause))]
-    fn let_clause(&self, rest: &'a str) -> Result<(Items<Clause>, &'a str), Stop>
-        requires { Nests self.now.descent.source (F.pre self.now.descent.nested) (F.post self.now.descent.nested) }
-        ensures { Opens clauses (at self.now.descent.source spec.let_clause rest.now) result }
-    {
-        let after = self.descent.keyword(rest, "let")?;
-        let (first, after) = self.let_variable(after)?;
-        let (others, after) = self.next_let_variables(after)?;
-        Ok((with_others(self.descent.alloc, first, others)?, after))
+#[tactic(auto, unfolding(query_terms::specs::Grammar::let_clause))]
+fn let_clause<
+    'a,
+    F: Fn(Global, QuerySource<'a>, Nest, &'a str) -> Result<(Boxed<Expr>, &'a str), Stop>,
+>(descent: &Descent<'a, F>, rest: &'a str) -> Result<(Items<Clause>, &'a str), Stop>
+    requires { Nests descent.now.source (F.pre descent.now.nested) (F.post descent.now.nested) }
+    ensures { Opens clauses (at descent.now.source spec.let_clause rest.now) result }
+{
+    let after = descent.keyword(rest, "let")?;
+    let (first, after) = let_variable(descent, after)?;
+    let (others, after) = next_let_variables(descent, after)?;
+    Ok((with_others(descent.alloc, first, others)?, after))
+}
+
+fn for_or_let<
+    'a,
+    F: Fn(Global, QuerySource<'a>, Nest, &'a str) -> Result<(Boxed<Expr>, &'a str), Stop>,
+>(descent: &Descent<'a, F>, rest: &'a str) -> Result<(Items<Clause>, &'a str), Stop>
+    requires { Nests descent.now.source (F.pre descent.now.nested) (F.post descent.now.nested) }
+    ensures { Opens clauses (at descent.now.source (alt spec.for_clause spec.let_clause) rest.now) result }
+{
+    if let Some(found) = tried(for_clause(descent, rest))? {
+        return Ok(found);
     }
+    let_clause(descent, rest)
+}
 
-    fn for_or_let(&self, rest: &'a str) -> Result<(Items<Clause>, &'a str), Stop>
-        requires { Nests self.now.descent.source (F.pre self.now.descent.nested) (F.post self.now.descent.nested) }
-        ensures { Opens clauses (at self.now.descent.source (alt spec.for_clause spec.let_clause) rest.now) result }
-    {
-        if let Some(found) = tried(self.for_clause(rest))? {
-            return Ok(found);
-        }
-        self.let_clause(rest)
-    }
+#[tactic(auto, unfolding(query_terms::specs::Grammar::binding_clause))]
+fn binding_clause<
+    'a,
+    F: Fn(Global, QuerySource<'a>, Nest, &'a str) -> Result<(Boxed<Expr>, &'a str), Stop>,
+>(descent: &Descent<'a, F>, rest: &'a str) -> Result<(Items<Clause>, &'a str), Stop>
+    requires { Nests descent.now.source (F.pre descent.now.nested) (F.post descent.now.nested) }
+    ensures { Opens clauses (at descent.now.source spec.binding_clause rest.now) result }
+{
+    let (found, after) = for_or_let(descent, rest)?;
+    Ok((found, descent.blanks(after)))
+}
 
-    #[tactic(auto, unfolding(query_terms::specs::Grammar::binding_clause))]
-    fn binding_clause(&self, rest: &'a str) -> Result<(Items<Clause>, &'a str), Stop>
-        requires { Nests self.now.descent.source (F.pre self.now.descent.nested) (F.post self.now.descent.nested) }
-        ensures { Opens clauses (at self.now.descent.source spec.binding_clause rest.now) result }
-    {
-        let (found, after) = self.for_or_let(rest)?;
-        Ok((found, self.descent.blanks(after)))
-    }
-
-    fn next_binding_clauses(&self, rest: &'a str) -> Result<(Items<Clause>, &'a str), Stop>
-        requires { Nests self.now.descent.source (F.pre self.now.descent.nested) (F.post self.now.descent.nested) }
-        ensures { Gathers spec.clauses_in (at self.now.descent.source (many spec.binding_clause) rest.now) result }
-    {
-        let mut found = Items::new(self.descent.alloc);
-        let mut after = rest;
-        for _turn in 0..rest.len() + 1 {
-            match self.binding_clause(after) {
-                Ok((item, next)) => {
-                    found.append(item)?;
-                    after = next;
-                }
-                Err(Stop::Refused) => return Ok((found, after)),
-                Err(Stop::TooDeep) => return Err(Stop::TooDeep),
-                Err(Stop::NoMemory) => return Err(Stop::NoMemory),
+fn next_binding_clauses<
+    'a,
+    F: Fn(Global, QuerySource<'a>, Nest, &'a str) -> Result<(Boxed<Expr>, &'a str), Stop>,
+>(descent: &Descent<'a, F>, rest: &'a str) -> Result<(Items<Clause>, &'a str), Stop>
+    requires { Nests descent.now.source (F.pre descent.now.nested) (F.post descent.now.nested) }
+    ensures { Gathers spec.clauses_in (at descent.now.source (many spec.binding_clause) rest.now) result }
+{
+    let mut found = Items::new(descent.alloc);
+    let mut after = rest;
+    for _turn in 0..rest.len() + 1 {
+        match binding_clause(descent, after) {
+            Ok((item, next)) => {
+                found.append(item)?;
+                after = next;
             }
+            Err(Stop::Refused) => return Ok((found, after)),
+            Err(Stop::TooDeep) => return Err(Stop::TooDeep),
+            Err(Stop::NoMemory) => return Err(Stop::NoMemory),
         }
-        Ok((found, after))
     }
+    Ok((found, after))
+}
 
-    #[tactic(auto, unfolding(query_terms::specs::Grammar::binding_clauses))]
-    pub(crate) fn binding_clauses(&self, rest: &'a str) -> Result<(Items<Clause>, &'a str), Stop>
-        requires { Nests self.now.descent.source (F.pre self.now.descent.nested) (F.post self.now.descent.nested) }
-        ensures { Opens clauses (at self.now.descent.source spec.binding_clauses rest.now) result }
-    {
-        let (mut found, after) = self.binding_clause(rest)?;
-        let (others, after) = self.next_binding_clauses(after)?;
-        found.append(others)?;
-        Ok((found, after))
-    }
+#[tactic(auto, unfolding(query_terms::specs::Grammar::binding_clauses))]
+pub(crate) fn binding_clauses<
+    'a,
+    F: Fn(Global, QuerySource<'a>, Nest, &'a str) -> Result<(Boxed<Expr>, &'a str), Stop>,
+>(descent: &Descent<'a, F>, rest: &'a str) -> Result<(Items<Clause>, &'a str), Stop>
+    requires { Nests descent.now.source (F.pre descent.now.nested) (F.post descent.now.nested) }
+    ensures { Opens clauses (at descent.now.source spec.binding_clauses rest.now) result }
+{
+    let (mut found, after) = binding_clause(descent, rest)?;
+    let (others, after) = next_binding_clauses(descent, after)?;
+    found.append(others)?;
+    Ok((found, after))
 }

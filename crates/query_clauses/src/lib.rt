@@ -3,10 +3,13 @@
 
 mod bindings;
 mod branches;
-mod flwor;
+mod flwor_expressions;
 mod orders;
 mod places;
-mod quantified;
+mod quantified_expressions;
 mod updates;
 
-pub use bindings::ClauseReader;
+pub use branches::conditional;
+pub use flwor_expressions::flwor;
+pub use quantified_expressions::quantified;
+pub use updates::{delete, insert, rename, replace};

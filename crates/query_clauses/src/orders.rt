@@ -7,9 +7,8 @@ ghost use Rattle.query_tokens.specs.Reads.{at, Reads};
 ghost use Rattle.query_tokens.specs.Descends.{Nests, Opens, Gathers};
 ghost use Rattle.query_clauses.specs.Parts.{as_maybe_flag, as_maybe_keys};
 
-use crate::bindings::ClauseReader;
 use query_terms::{Expr, Nest, OrderKey, Stop};
-use query_tokens::{QuerySource, tried};
+use query_tokens::{Descent, QuerySource, tried};
 use sqlite_items::{Boxed, Items};
 use std::alloc::Global;
 use tree_model::NoMemory;
@@ -103,93 +102,103 @@ fn with_others(
     Ok(found)
 }
 
-impl<
+#[tactic(auto, unfolding(query_terms::specs::Grammar::order_key))]
+fn order_key<
     'a,
     F: Fn(Global, QuerySource<'a>, Nest, &'a str) -> Result<(Boxed<Expr>, &'a str), Stop>,
-> ClauseReader<'a, F> {
-    #[tactic(auto, unfolding(query_terms::specs::Grammar::order_key))]
-    fn order_key(&self, rest: &'a str) -> Result<(OrderKey, &'a str), Stop>
-        requires { Nests self.now.descent.source (F.pre self.now.descent.nested) (F.post self.now.descent.nested) }
-        ensures { Opens key (at self.now.descent.source spec.order_key rest.now) result }
-    {
-        let (key, after) = self.descent.single(rest)?;
-        let (direction, after) = maybe_direction(&self.descent.source, after);
-        let (empty, after) = maybe_empty_order(&self.descent.source, after);
-        let is_descending = is_set(direction);
-        let is_empty_greatest = is_set(empty);
-        Ok((
-            OrderKey {
-                key,
-                is_descending,
-                is_empty_greatest,
-            },
-            after,
-        ))
-    }
+>(descent: &Descent<'a, F>, rest: &'a str) -> Result<(OrderKey, &'a str), Stop>
+    requires { Nests descent.now.source (F.pre descent.now.nested) (F.post descent.now.nested) }
+    ensures { Opens key (at descent.now.source spec.order_key rest.now) result }
+{
+    let (key, after) = descent.single(rest)?;
+    let (direction, after) = maybe_direction(&descent.source, after);
+    let (empty, after) = maybe_empty_order(&descent.source, after);
+    let is_descending = is_set(direction);
+    let is_empty_greatest = is_set(empty);
+    Ok((
+        OrderKey {
+            key,
+            is_descending,
+            is_empty_greatest,
+        },
+        after,
+    ))
+}
 
-    #[tactic(auto, unfolding(query_terms::specs::Grammar::next_order_key))]
-    fn next_order_key(&self, rest: &'a str) -> Result<(OrderKey, &'a str), Stop>
-        requires { Nests self.now.descent.source (F.pre self.now.descent.nested) (F.post self.now.descent.nested) }
-        ensures { Opens key (at self.now.descent.source spec.next_order_key rest.now) result }
-    {
-        let after = self.descent.blanks(rest);
-        let after = self.descent.word(after, ",")?;
-        let after = self.descent.blanks(after);
-        self.order_key(after)
-    }
+#[tactic(auto, unfolding(query_terms::specs::Grammar::next_order_key))]
+fn next_order_key<
+    'a,
+    F: Fn(Global, QuerySource<'a>, Nest, &'a str) -> Result<(Boxed<Expr>, &'a str), Stop>,
+>(descent: &Descent<'a, F>, rest: &'a str) -> Result<(OrderKey, &'a str), Stop>
+    requires { Nests descent.now.source (F.pre descent.now.nested) (F.post descent.now.nested) }
+    ensures { Opens key (at descent.now.source spec.next_order_key rest.now) result }
+{
+    let after = descent.blanks(rest);
+    let after = descent.word(after, ",")?;
+    let after = descent.blanks(after);
+    order_key(descent, after)
+}
 
-    fn next_order_keys(&self, rest: &'a str) -> Result<(Items<OrderKey>, &'a str), Stop>
-        requires { Nests self.now.descent.source (F.pre self.now.descent.nested) (F.post self.now.descent.nested) }
-        ensures { Gathers spec.keys_in (at self.now.descent.source (many spec.next_order_key) rest.now) result }
-    {
-        let mut found = Items::new(self.descent.alloc);
-        let mut after = rest;
-        for _turn in 0..rest.len() + 1 {
-            match self.next_order_key(after) {
-                Ok((item, next)) => {
-                    found.push(item)?;
-                    after = next;
-                }
-                Err(Stop::Refused) => return Ok((found, after)),
-                Err(Stop::TooDeep) => return Err(Stop::TooDeep),
-                Err(Stop::NoMemory) => return Err(Stop::NoMemory),
+fn next_order_keys<
+    'a,
+    F: Fn(Global, QuerySource<'a>, Nest, &'a str) -> Result<(Boxed<Expr>, &'a str), Stop>,
+>(descent: &Descent<'a, F>, rest: &'a str) -> Result<(Items<OrderKey>, &'a str), Stop>
+    requires { Nests descent.now.source (F.pre descent.now.nested) (F.post descent.now.nested) }
+    ensures { Gathers spec.keys_in (at descent.now.source (many spec.next_order_key) rest.now) result }
+{
+    let mut found = Items::new(descent.alloc);
+    let mut after = rest;
+    for _turn in 0..rest.len() + 1 {
+        match next_order_key(descent, after) {
+            Ok((item, next)) => {
+                found.push(item)?;
+                after = next;
             }
+            Err(Stop::Refused) => return Ok((found, after)),
+            Err(Stop::TooDeep) => return Err(Stop::TooDeep),
+            Err(Stop::NoMemory) => return Err(Stop::NoMemory),
         }
-        Ok((found, after))
     }
+    Ok((found, after))
+}
 
-    #[tactic(auto, unfolding(query_terms::specs::Grammar::order_by))]
-    fn order_by(&self, rest: &'a str) -> Result<(Items<OrderKey>, &'a str), Stop>
-        requires { Nests self.now.descent.source (F.pre self.now.descent.nested) (F.post self.now.descent.nested) }
-        ensures { Opens keys (at self.now.descent.source spec.order_by rest.now) result }
-    {
-        let after = stable(&self.descent.source, rest);
-        let after = self.descent.keyword(after, "order")?;
-        let after = self.descent.keyword(after, "by")?;
-        let (first, after) = self.order_key(after)?;
-        let (others, after) = self.next_order_keys(after)?;
-        Ok((with_others(self.descent.alloc, first, others)?, after))
-    }
+#[tactic(auto, unfolding(query_terms::specs::Grammar::order_by))]
+fn order_by<
+    'a,
+    F: Fn(Global, QuerySource<'a>, Nest, &'a str) -> Result<(Boxed<Expr>, &'a str), Stop>,
+>(descent: &Descent<'a, F>, rest: &'a str) -> Result<(Items<OrderKey>, &'a str), Stop>
+    requires { Nests descent.now.source (F.pre descent.now.nested) (F.post descent.now.nested) }
+    ensures { Opens keys (at descent.now.source spec.order_by rest.now) result }
+{
+    let after = stable(&descent.source, rest);
+    let after = descent.keyword(after, "order")?;
+    let after = descent.keyword(after, "by")?;
+    let (first, after) = order_key(descent, after)?;
+    let (others, after) = next_order_keys(descent, after)?;
+    Ok((with_others(descent.alloc, first, others)?, after))
+}
 
-    #[tactic(auto, unfolding(query_terms::specs::Grammar::order_clause))]
-    fn order_clause(&self, rest: &'a str) -> Result<(Items<OrderKey>, &'a str), Stop>
-        requires { Nests self.now.descent.source (F.pre self.now.descent.nested) (F.post self.now.descent.nested) }
-        ensures { Opens keys (at self.now.descent.source spec.order_clause rest.now) result }
-    {
-        let (found, after) = self.order_by(rest)?;
-        Ok((found, self.descent.blanks(after)))
-    }
+#[tactic(auto, unfolding(query_terms::specs::Grammar::order_clause))]
+fn order_clause<
+    'a,
+    F: Fn(Global, QuerySource<'a>, Nest, &'a str) -> Result<(Boxed<Expr>, &'a str), Stop>,
+>(descent: &Descent<'a, F>, rest: &'a str) -> Result<(Items<OrderKey>, &'a str), Stop>
+    requires { Nests descent.now.source (F.pre descent.now.nested) (F.post descent.now.nested) }
+    ensures { Opens keys (at descent.now.source spec.order_clause rest.now) result }
+{
+    let (found, after) = order_by(descent, rest)?;
+    Ok((found, descent.blanks(after)))
+}
 
-    pub(crate) fn maybe_order_clause(
-        &self,
-        rest: &'a str,
-    ) -> Result<(Option<Items<OrderKey>>, &'a str), Stop>
-        requires { Nests self.now.descent.source (F.pre self.now.descent.nested) (F.post self.now.descent.nested) }
-        ensures { Opens as_maybe_keys (at self.now.descent.source (opt spec.order_clause) rest.now) result }
-    {
-        match tried(self.order_clause(rest))? {
-            Some((found, after)) => Ok((Some(found), after)),
-            None => Ok((None, rest)),
-        }
+pub(crate) fn maybe_order_clause<
+    'a,
+    F: Fn(Global, QuerySource<'a>, Nest, &'a str) -> Result<(Boxed<Expr>, &'a str), Stop>,
+>(descent: &Descent<'a, F>, rest: &'a str) -> Result<(Option<Items<OrderKey>>, &'a str), Stop>
+    requires { Nests descent.now.source (F.pre descent.now.nested) (F.post descent.now.nested) }
+    ensures { Opens as_maybe_keys (at descent.now.source (opt spec.order_clause) rest.now) result }
+{
+    match tried(order_clause(descent, rest))? {
+        Some((found, after)) => Ok((Some(found), after)),
+        None => Ok((None, rest)),
     }
 }

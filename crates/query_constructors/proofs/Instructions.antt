@@ -8,8 +8,8 @@ use Rattle.query_terms.specs.Lexis.{between, blanks, keyword}
 use Rattle.query_terms.specs.Markup.{computed_as, computed_body, computed_instruction, instruction_name}
 use Rattle.query_tokens.specs.Reads.{at}
 use Rattle.query_tokens.specs.declared.source.QuerySource.{QuerySource}
-use Rattle.query_constructors.specs.declared.computed.ComputedName.{ComputedName}
-use Rattle.query_constructors.specs.declared.computed.ComputedName.TheVariants as names
+use Rattle.query_constructors.specs.declared.computed_constructors.ComputedName.{ComputedName}
+use Rattle.query_constructors.specs.declared.computed_constructors.ComputedName.TheVariants as names
 use Rattle.query_constructors.specs.Runs.{as_computed_name, as_maybe_term}
 
 pub instruction_is : (source : QuerySource) (s t u v w : Text) (name : ComputedName) (body : Option Expr) → at source (keyword (codes "processing-instruction")) s ≡ Ok (nothing, t) →

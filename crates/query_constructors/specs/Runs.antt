@@ -16,8 +16,8 @@ use Rattle.query_constructors.specs.declared.run.Run.{Run}
 use Rattle.query_constructors.specs.declared.quoted.Quoted.{Quoted}
 use Rattle.query_constructors.specs.declared.elements.Inside.{Inside}
 use Rattle.query_constructors.specs.declared.elements.Inside.TheVariants as insides
-use Rattle.query_constructors.specs.declared.computed.ComputedName.{ComputedName}
-use Rattle.query_constructors.specs.declared.computed.ComputedName.TheVariants as names
+use Rattle.query_constructors.specs.declared.computed_constructors.ComputedName.{ComputedName}
+use Rattle.query_constructors.specs.declared.computed_constructors.ComputedName.TheVariants as names
 
 abbrev pub as_maybe_text : Option Text → Value
 as_maybe_text None = absent

@@ -4,11 +4,13 @@
 mod attributes;
 mod characters;
 mod comments;
-mod computed;
+mod computed_constructors;
 mod contents;
 mod elements;
 mod markup;
 mod quoted;
 mod run;
 
-pub use markup::Markup;
+pub use computed_constructors::computed;
+pub use elements::element;
+pub use markup::direct;

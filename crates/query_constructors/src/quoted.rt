@@ -8,11 +8,10 @@ ghost use Rattle.query_tokens.specs.Reads.{at, quote_code};
 ghost use Rattle.query_tokens.specs.Descends.{Nests, Opens};
 ghost use Rattle.query_constructors.specs.Runs.{as_maybe_text, as_piece, as_quoted, Piles};
 
-use crate::markup::Markup;
 use crate::run::{Piece, Run};
 use constructor_search::holds_constructor;
 use query_terms::{Content, Expr, Nest, Stop};
-use query_tokens::{QuerySource, Quote, front, tried};
+use query_tokens::{Descent, QuerySource, Quote, front, tried};
 use sqlite_items::{Boxed, Items};
 use std::alloc::Global;
 use tree_model::{NoMemory, Text};
@@ -66,82 +65,91 @@ fn written(alloc: Global, parts: &[Content], between: &str) -> Result<Option<Tex
     }
 }
 
-impl<
+#[tactic(auto, unfolding(query_terms::specs::Markup::quoted_piece, query_terms::specs::Markup::enclosed_content))]
+fn quoted_piece<
     'a,
     F: Fn(Global, QuerySource<'a>, Nest, &'a str) -> Result<(Boxed<Expr>, &'a str), Stop>,
-> Markup<'a, F> {
-    #[tactic(auto, unfolding(query_terms::specs::Markup::quoted_piece, query_terms::specs::Markup::enclosed_content))]
-    fn quoted_piece(&self, rest: &'a str, quote: Quote) -> Result<(Piece, &'a str), Stop>
-        requires { Nests self.now.descent.source (F.pre self.now.descent.nested) (F.post self.now.descent.nested) }
-        ensures { Opens as_piece (at self.now.descent.source (spec.quoted_piece (quote_code quote)) rest.now) result }
-    {
-        if let Some((found, after)) = self.descent.source.quoted_escape(rest, quote) {
-            return Ok((Piece::Solid(found), after));
-        }
-        if let Some((body, after)) = tried(self.descent.enclosed(rest))? {
-            return Ok((Piece::Enclosed(body), after));
-        }
-        let (found, after) = self
-            .descent
-            .source
-            .quoted_plain(rest, quote)
-            .ok_or(Stop::Refused)?;
-        Ok((Piece::Solid(found), after))
+>(descent: &Descent<'a, F>, rest: &'a str, quote: Quote) -> Result<(Piece, &'a str), Stop>
+    requires { Nests descent.now.source (F.pre descent.now.nested) (F.post descent.now.nested) }
+    ensures { Opens as_piece (at descent.now.source (spec.quoted_piece (quote_code quote)) rest.now) result }
+{
+    if let Some((found, after)) = descent.source.quoted_escape(rest, quote) {
+        return Ok((Piece::Solid(found), after));
     }
+    if let Some((body, after)) = tried(descent.enclosed(rest))? {
+        return Ok((Piece::Enclosed(body), after));
+    }
+    let (found, after) = descent
+        .source
+        .quoted_plain(rest, quote)
+        .ok_or(Stop::Refused)?;
+    Ok((Piece::Solid(found), after))
+}
 
-    fn quoted_run(&self, rest: &'a str, quote: Quote) -> Result<(Run, &'a str), Stop>
-        requires { Nests self.now.descent.source (F.pre self.now.descent.nested) (F.post self.now.descent.nested) }
-        ensures { Piles (at self.now.descent.source (many (spec.quoted_piece (quote_code quote))) rest.now) result }
-    {
-        let mut run = Run::new(self.descent.alloc);
-        let mut after = rest;
-        for _turn in 0..rest.len() + 1 {
-            match self.quoted_piece(after, quote) {
-                Ok((piece, next)) => {
-                    run.add(self.descent.alloc, piece)?;
-                    after = next;
-                }
-                Err(Stop::Refused) => return Ok((run, after)),
-                Err(Stop::TooDeep) => return Err(Stop::TooDeep),
-                Err(Stop::NoMemory) => return Err(Stop::NoMemory),
+fn quoted_run<
+    'a,
+    F: Fn(Global, QuerySource<'a>, Nest, &'a str) -> Result<(Boxed<Expr>, &'a str), Stop>,
+>(descent: &Descent<'a, F>, rest: &'a str, quote: Quote) -> Result<(Run, &'a str), Stop>
+    requires { Nests descent.now.source (F.pre descent.now.nested) (F.post descent.now.nested) }
+    ensures { Piles (at descent.now.source (many (spec.quoted_piece (quote_code quote))) rest.now) result }
+{
+    let mut run = Run::new(descent.alloc);
+    let mut after = rest;
+    for _turn in 0..rest.len() + 1 {
+        match quoted_piece(descent, after, quote) {
+            Ok((piece, next)) => {
+                run.add(descent.alloc, piece)?;
+                after = next;
             }
+            Err(Stop::Refused) => return Ok((run, after)),
+            Err(Stop::TooDeep) => return Err(Stop::TooDeep),
+            Err(Stop::NoMemory) => return Err(Stop::NoMemory),
         }
-        Ok((run, after))
     }
+    Ok((run, after))
+}
 
-    #[tactic(auto, unfolding(query_terms::specs::Markup::quoted_body))]
-    fn quoted_body(&self, rest: &'a str, quote: Quote) -> Result<(Quoted, &'a str), Stop>
-        requires { Nests self.now.descent.source (F.pre self.now.descent.nested) (F.post self.now.descent.nested) }
-        ensures { Opens as_quoted (at self.now.descent.source (spec.quoted_body (quote_code quote)) rest.now) result }
-    {
-        let (run, after) = self.quoted_run(rest, quote)?;
-        let value = run.close(self.descent.alloc)?;
-        let written = written(self.descent.alloc, value.as_slice(), front(rest, after))?;
-        Ok((Quoted { value, written }, after))
-    }
+#[tactic(auto, unfolding(query_terms::specs::Markup::quoted_body))]
+fn quoted_body<
+    'a,
+    F: Fn(Global, QuerySource<'a>, Nest, &'a str) -> Result<(Boxed<Expr>, &'a str), Stop>,
+>(descent: &Descent<'a, F>, rest: &'a str, quote: Quote) -> Result<(Quoted, &'a str), Stop>
+    requires { Nests descent.now.source (F.pre descent.now.nested) (F.post descent.now.nested) }
+    ensures { Opens as_quoted (at descent.now.source (spec.quoted_body (quote_code quote)) rest.now) result }
+{
+    let (run, after) = quoted_run(descent, rest, quote)?;
+    let value = run.close(descent.alloc)?;
+    let written = written(descent.alloc, value.as_slice(), front(rest, after))?;
+    Ok((Quoted { value, written }, after))
+}
 
-    #[tactic(auto, unfolding(query_terms::specs::Markup::quoted_in))]
-    fn quoted_in(&self, rest: &'a str, quote: Quote) -> Result<(Quoted, &'a str), Stop>
-        requires { Nests self.now.descent.source (F.pre self.now.descent.nested) (F.post self.now.descent.nested) }
-        ensures { Opens as_quoted (at self.now.descent.source (spec.quoted_in (quote_code quote)) rest.now) result }
-    {
-        let after = self.descent.word(rest, quote.once())?;
-        let (found, after) = self.quoted_body(after, quote)?;
-        let after = self.descent.word(after, quote.once())?;
-        if has_constructor(found.value.as_slice()) {
-            return Err(Stop::Refused);
-        }
-        Ok((found, after))
+#[tactic(auto, unfolding(query_terms::specs::Markup::quoted_in))]
+fn quoted_in<
+    'a,
+    F: Fn(Global, QuerySource<'a>, Nest, &'a str) -> Result<(Boxed<Expr>, &'a str), Stop>,
+>(descent: &Descent<'a, F>, rest: &'a str, quote: Quote) -> Result<(Quoted, &'a str), Stop>
+    requires { Nests descent.now.source (F.pre descent.now.nested) (F.post descent.now.nested) }
+    ensures { Opens as_quoted (at descent.now.source (spec.quoted_in (quote_code quote)) rest.now) result }
+{
+    let after = descent.word(rest, quote.once())?;
+    let (found, after) = quoted_body(descent, after, quote)?;
+    let after = descent.word(after, quote.once())?;
+    if has_constructor(found.value.as_slice()) {
+        return Err(Stop::Refused);
     }
+    Ok((found, after))
+}
 
-    #[tactic(auto, unfolding(query_terms::specs::Markup::quoted))]
-    pub(crate) fn quoted(&self, rest: &'a str) -> Result<(Quoted, &'a str), Stop>
-        requires { Nests self.now.descent.source (F.pre self.now.descent.nested) (F.post self.now.descent.nested) }
-        ensures { Opens as_quoted (at self.now.descent.source spec.quoted rest.now) result }
-    {
-        if let Some(found) = tried(self.quoted_in(rest, Quote::Double))? {
-            return Ok(found);
-        }
-        self.quoted_in(rest, Quote::Single)
+#[tactic(auto, unfolding(query_terms::specs::Markup::quoted))]
+pub(crate) fn read_quoted<
+    'a,
+    F: Fn(Global, QuerySource<'a>, Nest, &'a str) -> Result<(Boxed<Expr>, &'a str), Stop>,
+>(descent: &Descent<'a, F>, rest: &'a str) -> Result<(Quoted, &'a str), Stop>
+    requires { Nests descent.now.source (F.pre descent.now.nested) (F.post descent.now.nested) }
+    ensures { Opens as_quoted (at descent.now.source spec.quoted rest.now) result }
+{
+    if let Some(found) = tried(quoted_in(descent, rest, Quote::Double))? {
+        return Ok(found);
     }
+    quoted_in(descent, rest, Quote::Single)
 }

@@ -7,9 +7,9 @@ ghost use Rattle.query_tokens.specs.Descends.{Nests, Opens};
 ghost use Rattle.query_operators.specs.Parts.{as_maybe_term, as_compared, as_maybe_compared};
 
 use crate::comparators::comparator;
-use crate::operators::OperatorReader;
+use crate::sums::additive;
 use query_terms::{Comparator, Expr, Nest, Span, Stop};
-use query_tokens::{QuerySource, tried};
+use query_tokens::{Descent, QuerySource, tried};
 use sqlite_items::Boxed;
 use std::alloc::Global;
 use tree_model::NoMemory;
@@ -58,79 +58,84 @@ fn comparison_term(
     }
 }
 
-impl<
+#[tactic(auto, unfolding(query_terms::specs::Grammar::range_end))]
+fn range_end<
     'a,
     F: Fn(Global, QuerySource<'a>, Nest, &'a str) -> Result<(Boxed<Expr>, &'a str), Stop>,
-> OperatorReader<'a, F> {
-    #[tactic(auto, unfolding(query_terms::specs::Grammar::range_end))]
-    fn range_end(&self, rest: &'a str) -> Result<(Boxed<Expr>, &'a str), Stop>
-        requires { Nests self.now.paths.markup.descent.source (F.pre self.now.paths.markup.descent.nested) (F.post self.now.paths.markup.descent.nested) }
-        ensures { Opens term (at self.now.paths.markup.descent.source spec.range_end rest.now) result }
-    {
-        let after = self.paths.markup.descent.blanks(rest);
-        let after = self.paths.markup.descent.keyword(after, "to")?;
-        self.additive(after)
-    }
+>(descent: &Descent<'a, F>, rest: &'a str) -> Result<(Boxed<Expr>, &'a str), Stop>
+    requires { Nests descent.now.source (F.pre descent.now.nested) (F.post descent.now.nested) }
+    ensures { Opens term (at descent.now.source spec.range_end rest.now) result }
+{
+    let after = descent.blanks(rest);
+    let after = descent.keyword(after, "to")?;
+    additive(descent, after)
+}
 
-    fn maybe_range_end(&self, rest: &'a str) -> Result<(Option<Boxed<Expr>>, &'a str), Stop>
-        requires { Nests self.now.paths.markup.descent.source (F.pre self.now.paths.markup.descent.nested) (F.post self.now.paths.markup.descent.nested) }
-        ensures { Opens as_maybe_term (at self.now.paths.markup.descent.source (opt spec.range_end) rest.now) result }
-    {
-        match tried(self.range_end(rest))? {
-            Some((found, after)) => Ok((Some(found), after)),
-            None => Ok((None, rest)),
-        }
+fn maybe_range_end<
+    'a,
+    F: Fn(Global, QuerySource<'a>, Nest, &'a str) -> Result<(Boxed<Expr>, &'a str), Stop>,
+>(descent: &Descent<'a, F>, rest: &'a str) -> Result<(Option<Boxed<Expr>>, &'a str), Stop>
+    requires { Nests descent.now.source (F.pre descent.now.nested) (F.post descent.now.nested) }
+    ensures { Opens as_maybe_term (at descent.now.source (opt spec.range_end) rest.now) result }
+{
+    match tried(range_end(descent, rest))? {
+        Some((found, after)) => Ok((Some(found), after)),
+        None => Ok((None, rest)),
     }
+}
 
-    #[tactic(auto, unfolding(query_terms::specs::Grammar::range))]
-    fn range(&self, rest: &'a str) -> Result<(Boxed<Expr>, &'a str), Stop>
-        requires { Nests self.now.paths.markup.descent.source (F.pre self.now.paths.markup.descent.nested) (F.post self.now.paths.markup.descent.nested) }
-        ensures { Opens term (at self.now.paths.markup.descent.source spec.range rest.now) result }
-    {
-        let (from, after) = self.additive(rest)?;
-        let (end, after) = self.maybe_range_end(after)?;
-        let span = self.paths.markup.descent.source.span(rest, after);
-        Ok((
-            range_term(self.paths.markup.descent.alloc, span, from, end)?,
-            after,
-        ))
-    }
+#[tactic(auto, unfolding(query_terms::specs::Grammar::range))]
+fn range<'a, F: Fn(Global, QuerySource<'a>, Nest, &'a str) -> Result<(Boxed<Expr>, &'a str), Stop>>(
+    descent: &Descent<'a, F>,
+    rest: &'a str,
+) -> Result<(Boxed<Expr>, &'a str), Stop>
+    requires { Nests descent.now.source (F.pre descent.now.nested) (F.post descent.now.nested) }
+    ensures { Opens term (at descent.now.source spec.range rest.now) result }
+{
+    let (from, after) = additive(descent, rest)?;
+    let (end, after) = maybe_range_end(descent, after)?;
+    let span = descent.source.span(rest, after);
+    Ok((range_term(descent.alloc, span, from, end)?, after))
+}
 
-    #[tactic(auto, unfolding(query_terms::specs::Grammar::compared))]
-    fn compared(&self, rest: &'a str) -> Result<(Compared, &'a str), Stop>
-        requires { Nests self.now.paths.markup.descent.source (F.pre self.now.paths.markup.descent.nested) (F.post self.now.paths.markup.descent.nested) }
-        ensures { Opens as_compared (at self.now.paths.markup.descent.source spec.compared rest.now) result }
-    {
-        let after = self.paths.markup.descent.blanks(rest);
-        let (comparator, after) = comparator(&self.paths.markup.descent.source, after).ok_or(
-            Stop::Refused,
-        )?;
-        let after = self.paths.markup.descent.blanks(after);
-        let (right, after) = self.range(after)?;
-        Ok((Compared { comparator, right }, after))
-    }
+#[tactic(auto, unfolding(query_terms::specs::Grammar::compared))]
+fn read_compared<
+    'a,
+    F: Fn(Global, QuerySource<'a>, Nest, &'a str) -> Result<(Boxed<Expr>, &'a str), Stop>,
+>(descent: &Descent<'a, F>, rest: &'a str) -> Result<(Compared, &'a str), Stop>
+    requires { Nests descent.now.source (F.pre descent.now.nested) (F.post descent.now.nested) }
+    ensures { Opens as_compared (at descent.now.source spec.compared rest.now) result }
+{
+    let after = descent.blanks(rest);
+    let (comparator, after) = comparator(&descent.source, after).ok_or(Stop::Refused)?;
+    let after = descent.blanks(after);
+    let (right, after) = range(descent, after)?;
+    Ok((Compared { comparator, right }, after))
+}
 
-    fn maybe_compared(&self, rest: &'a str) -> Result<(Option<Compared>, &'a str), Stop>
-        requires { Nests self.now.paths.markup.descent.source (F.pre self.now.paths.markup.descent.nested) (F.post self.now.paths.markup.descent.nested) }
-        ensures { Opens as_maybe_compared (at self.now.paths.markup.descent.source (opt spec.compared) rest.now) result }
-    {
-        match tried(self.compared(rest))? {
-            Some((found, after)) => Ok((Some(found), after)),
-            None => Ok((None, rest)),
-        }
+fn maybe_compared<
+    'a,
+    F: Fn(Global, QuerySource<'a>, Nest, &'a str) -> Result<(Boxed<Expr>, &'a str), Stop>,
+>(descent: &Descent<'a, F>, rest: &'a str) -> Result<(Option<Compared>, &'a str), Stop>
+    requires { Nests descent.now.source (F.pre descent.now.nested) (F.post descent.now.nested) }
+    ensures { Opens as_maybe_compared (at descent.now.source (opt spec.compared) rest.now) result }
+{
+    match tried(read_compared(descent, rest))? {
+        Some((found, after)) => Ok((Some(found), after)),
+        None => Ok((None, rest)),
     }
+}
 
-    #[tactic(auto, unfolding(query_terms::specs::Grammar::comparison))]
-    pub(crate) fn comparison(&self, rest: &'a str) -> Result<(Boxed<Expr>, &'a str), Stop>
-        requires { Nests self.now.paths.markup.descent.source (F.pre self.now.paths.markup.descent.nested) (F.post self.now.paths.markup.descent.nested) }
-        ensures { Opens term (at self.now.paths.markup.descent.source spec.comparison rest.now) result }
-    {
-        let (left, after) = self.range(rest)?;
-        let (compared, after) = self.maybe_compared(after)?;
-        let span = self.paths.markup.descent.source.span(rest, after);
-        Ok((
-            comparison_term(self.paths.markup.descent.alloc, span, left, compared)?,
-            after,
-        ))
-    }
+#[tactic(auto, unfolding(query_terms::specs::Grammar::comparison))]
+pub(crate) fn comparison<
+    'a,
+    F: Fn(Global, QuerySource<'a>, Nest, &'a str) -> Result<(Boxed<Expr>, &'a str), Stop>,
+>(descent: &Descent<'a, F>, rest: &'a str) -> Result<(Boxed<Expr>, &'a str), Stop>
+    requires { Nests descent.now.source (F.pre descent.now.nested) (F.post descent.now.nested) }
+    ensures { Opens term (at descent.now.source spec.comparison rest.now) result }
+{
+    let (left, after) = range(descent, rest)?;
+    let (compared, after) = maybe_compared(descent, after)?;
+    let span = descent.source.span(rest, after);
+    Ok((comparison_term(descent.alloc, span, left, compared)?, after))
 }

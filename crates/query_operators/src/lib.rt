@@ -9,4 +9,4 @@ mod signs;
 mod sums;
 mod symbols;
 
-pub use operators::OperatorReader;
+pub use logic::disjunction;

@@ -6,9 +6,9 @@ ghost use Rattle.query_terms.specs.Grammar as spec;
 ghost use Rattle.query_tokens.specs.Reads.{at};
 ghost use Rattle.query_tokens.specs.Descends.{Nests, Opens, Gathers};
 
-use crate::operators::OperatorReader;
+use crate::comparisons::comparison;
 use query_terms::{Expr, Nest, Span, Stop};
-use query_tokens::QuerySource;
+use query_tokens::{Descent, QuerySource};
 use sqlite_items::{Boxed, Items};
 use std::alloc::Global;
 use tree_model::NoMemory;
@@ -53,96 +53,103 @@ fn or_term(
     Boxed::new(alloc, term)
 }
 
-impl<
+#[tactic(auto, unfolding(query_terms::specs::Grammar::next_comparison))]
+fn next_comparison<
     'a,
     F: Fn(Global, QuerySource<'a>, Nest, &'a str) -> Result<(Boxed<Expr>, &'a str), Stop>,
-> OperatorReader<'a, F> {
-    #[tactic(auto, unfolding(query_terms::specs::Grammar::next_comparison))]
-    fn next_comparison(&self, rest: &'a str) -> Result<(Boxed<Expr>, &'a str), Stop>
-        requires { Nests self.now.paths.markup.descent.source (F.pre self.now.paths.markup.descent.nested) (F.post self.now.paths.markup.descent.nested) }
-        ensures { Opens term (at self.now.paths.markup.descent.source spec.next_comparison rest.now) result }
-    {
-        let after = self.paths.markup.descent.blanks(rest);
-        let after = self.paths.markup.descent.keyword(after, "and")?;
-        self.comparison(after)
-    }
+>(descent: &Descent<'a, F>, rest: &'a str) -> Result<(Boxed<Expr>, &'a str), Stop>
+    requires { Nests descent.now.source (F.pre descent.now.nested) (F.post descent.now.nested) }
+    ensures { Opens term (at descent.now.source spec.next_comparison rest.now) result }
+{
+    let after = descent.blanks(rest);
+    let after = descent.keyword(after, "and")?;
+    comparison(descent, after)
+}
 
-    fn next_comparisons(&self, rest: &'a str) -> Result<(Items<Expr>, &'a str), Stop>
-        requires { Nests self.now.paths.markup.descent.source (F.pre self.now.paths.markup.descent.nested) (F.post self.now.paths.markup.descent.nested) }
-        ensures { Gathers terms_in (at self.now.paths.markup.descent.source (many spec.next_comparison) rest.now) result }
-    {
-        let mut found = Items::new(self.paths.markup.descent.alloc);
-        let mut after = rest;
-        for _turn in 0..rest.len() + 1 {
-            match self.next_comparison(after) {
-                Ok((item, next)) => {
-                    found.push(item.into_inner())?;
-                    after = next;
-                }
-                Err(Stop::Refused) => return Ok((found, after)),
-                Err(Stop::TooDeep) => return Err(Stop::TooDeep),
-                Err(Stop::NoMemory) => return Err(Stop::NoMemory),
+fn next_comparisons<
+    'a,
+    F: Fn(Global, QuerySource<'a>, Nest, &'a str) -> Result<(Boxed<Expr>, &'a str), Stop>,
+>(descent: &Descent<'a, F>, rest: &'a str) -> Result<(Items<Expr>, &'a str), Stop>
+    requires { Nests descent.now.source (F.pre descent.now.nested) (F.post descent.now.nested) }
+    ensures { Gathers terms_in (at descent.now.source (many spec.next_comparison) rest.now) result }
+{
+    let mut found = Items::new(descent.alloc);
+    let mut after = rest;
+    for _turn in 0..rest.len() + 1 {
+        match next_comparison(descent, after) {
+            Ok((item, next)) => {
+                found.push(item.into_inner())?;
+                after = next;
             }
+            Err(Stop::Refused) => return Ok((found, after)),
+            Err(Stop::TooDeep) => return Err(Stop::TooDeep),
+            Err(Stop::NoMemory) => return Err(Stop::NoMemory),
         }
-        Ok((found, after))
     }
+    Ok((found, after))
+}
 
-    #[tactic(auto, unfolding(query_terms::specs::Grammar::and_rule))]
-    fn conjunction(&self, rest: &'a str) -> Result<(Boxed<Expr>, &'a str), Stop>
-        requires { Nests self.now.paths.markup.descent.source (F.pre self.now.paths.markup.descent.nested) (F.post self.now.paths.markup.descent.nested) }
-        ensures { Opens term (at self.now.paths.markup.descent.source spec.and_rule rest.now) result }
-    {
-        let (first, after) = self.comparison(rest)?;
-        let (others, after) = self.next_comparisons(after)?;
-        let span = self.paths.markup.descent.source.span(rest, after);
-        Ok((
-            and_term(self.paths.markup.descent.alloc, span, first, others)?,
-            after,
-        ))
-    }
+#[tactic(auto, unfolding(query_terms::specs::Grammar::and_rule))]
+fn conjunction<
+    'a,
+    F: Fn(Global, QuerySource<'a>, Nest, &'a str) -> Result<(Boxed<Expr>, &'a str), Stop>,
+>(descent: &Descent<'a, F>, rest: &'a str) -> Result<(Boxed<Expr>, &'a str), Stop>
+    requires { Nests descent.now.source (F.pre descent.now.nested) (F.post descent.now.nested) }
+    ensures { Opens term (at descent.now.source spec.and_rule rest.now) result }
+{
+    let (first, after) = comparison(descent, rest)?;
+    let (others, after) = next_comparisons(descent, after)?;
+    let span = descent.source.span(rest, after);
+    Ok((and_term(descent.alloc, span, first, others)?, after))
+}
 
-    #[tactic(auto, unfolding(query_terms::specs::Grammar::next_and))]
-    fn next_and(&self, rest: &'a str) -> Result<(Boxed<Expr>, &'a str), Stop>
-        requires { Nests self.now.paths.markup.descent.source (F.pre self.now.paths.markup.descent.nested) (F.post self.now.paths.markup.descent.nested) }
-        ensures { Opens term (at self.now.paths.markup.descent.source spec.next_and rest.now) result }
-    {
-        let after = self.paths.markup.descent.blanks(rest);
-        let after = self.paths.markup.descent.keyword(after, "or")?;
-        self.conjunction(after)
-    }
+#[tactic(auto, unfolding(query_terms::specs::Grammar::next_and))]
+fn next_and<
+    'a,
+    F: Fn(Global, QuerySource<'a>, Nest, &'a str) -> Result<(Boxed<Expr>, &'a str), Stop>,
+>(descent: &Descent<'a, F>, rest: &'a str) -> Result<(Boxed<Expr>, &'a str), Stop>
+    requires { Nests descent.now.source (F.pre descent.now.nested) (F.post descent.now.nested) }
+    ensures { Opens term (at descent.now.source spec.next_and rest.now) result }
+{
+    let after = descent.blanks(rest);
+    let after = descent.keyword(after, "or")?;
+    conjunction(descent, after)
+}
 
-    fn next_ands(&self, rest: &'a str) -> Result<(Items<Expr>, &'a str), Stop>
-        requires { Nests self.now.paths.markup.descent.source (F.pre self.now.paths.markup.descent.nested) (F.post self.now.paths.markup.descent.nested) }
-        ensures { Gathers terms_in (at self.now.paths.markup.descent.source (many spec.next_and) rest.now) result }
-    {
-        let mut found = Items::new(self.paths.markup.descent.alloc);
-        let mut after = rest;
-        for _turn in 0..rest.len() + 1 {
-            match self.next_and(after) {
-                Ok((item, next)) => {
-                    found.push(item.into_inner())?;
-                    after = next;
-                }
-                Err(Stop::Refused) => return Ok((found, after)),
-                Err(Stop::TooDeep) => return Err(Stop::TooDeep),
-                Err(Stop::NoMemory) => return Err(Stop::NoMemory),
+fn next_ands<
+    'a,
+    F: Fn(Global, QuerySource<'a>, Nest, &'a str) -> Result<(Boxed<Expr>, &'a str), Stop>,
+>(descent: &Descent<'a, F>, rest: &'a str) -> Result<(Items<Expr>, &'a str), Stop>
+    requires { Nests descent.now.source (F.pre descent.now.nested) (F.post descent.now.nested) }
+    ensures { Gathers terms_in (at descent.now.source (many spec.next_and) rest.now) result }
+{
+    let mut found = Items::new(descent.alloc);
+    let mut after = rest;
+    for _turn in 0..rest.len() + 1 {
+        match next_and(descent, after) {
+            Ok((item, next)) => {
+                found.push(item.into_inner())?;
+                after = next;
             }
+            Err(Stop::Refused) => return Ok((found, after)),
+            Err(Stop::TooDeep) => return Err(Stop::TooDeep),
+            Err(Stop::NoMemory) => return Err(Stop::NoMemory),
         }
-        Ok((found, after))
     }
+    Ok((found, after))
+}
 
-    /// Operands with operators between them, or one alone (XQuery 1.0, sections 3.3 to 3.6).
-    #[tactic(auto, unfolding(query_terms::specs::Grammar::or_rule))]
-    pub fn disjunction(&self, rest: &'a str) -> Result<(Boxed<Expr>, &'a str), Stop>
-        requires { Nests self.now.paths.markup.descent.source (F.pre self.now.paths.markup.descent.nested) (F.post self.now.paths.markup.descent.nested) }
-        ensures { Opens term (at self.now.paths.markup.descent.source spec.or_rule rest.now) result }
-    {
-        let (first, after) = self.conjunction(rest)?;
-        let (others, after) = self.next_ands(after)?;
-        let span = self.paths.markup.descent.source.span(rest, after);
-        Ok((
-            or_term(self.paths.markup.descent.alloc, span, first, others)?,
-            after,
-        ))
-    }
+/// Operands with operators between them, or one alone (XQuery 1.0, sections 3.3 to 3.6).
+#[tactic(auto, unfolding(query_terms::specs::Grammar::or_rule))]
+pub fn disjunction<
+    'a,
+    F: Fn(Global, QuerySource<'a>, Nest, &'a str) -> Result<(Boxed<Expr>, &'a str), Stop>,
+>(descent: &Descent<'a, F>, rest: &'a str) -> Result<(Boxed<Expr>, &'a str), Stop>
+    requires { Nests descent.now.source (F.pre descent.now.nested) (F.post descent.now.nested) }
+    ensures { Opens term (at descent.now.source spec.or_rule rest.now) result }
+{
+    let (first, after) = conjunction(descent, rest)?;
+    let (others, after) = next_ands(descent, after)?;
+    let span = descent.source.span(rest, after);
+    Ok((or_term(descent.alloc, span, first, others)?, after))
 }

@@ -7,9 +7,9 @@ ghost use Rattle.query_tokens.specs.Reads.{at, Reads};
 ghost use Rattle.query_tokens.specs.Descends.{Nests, Opens};
 ghost use Rattle.std.specs.Prelude.{codes, true, false};
 
-use crate::operators::OperatorReader;
+use query_steps::path;
 use query_terms::{Expr, Nest, Span, Stop};
-use query_tokens::QuerySource;
+use query_tokens::{Descent, QuerySource};
 use sqlite_items::Boxed;
 use std::alloc::Global;
 use tree_model::NoMemory;
@@ -80,21 +80,16 @@ fn signed(
     }
 }
 
-impl<
+#[tactic(auto, unfolding(query_terms::specs::Grammar::unary))]
+pub(crate) fn unary<
     'a,
     F: Fn(Global, QuerySource<'a>, Nest, &'a str) -> Result<(Boxed<Expr>, &'a str), Stop>,
-> OperatorReader<'a, F> {
-    #[tactic(auto, unfolding(query_terms::specs::Grammar::unary))]
-    pub(crate) fn unary(&self, rest: &'a str) -> Result<(Boxed<Expr>, &'a str), Stop>
-        requires { Nests self.now.paths.markup.descent.source (F.pre self.now.paths.markup.descent.nested) (F.post self.now.paths.markup.descent.nested) }
-        ensures { Opens term (at self.now.paths.markup.descent.source spec.unary rest.now) result }
-    {
-        let (sign, after) = signs(&self.paths.markup.descent.source, rest);
-        let (operand, after) = self.paths.path(after)?;
-        let span = self.paths.markup.descent.source.span(rest, after);
-        Ok((
-            signed(self.paths.markup.descent.alloc, span, sign, operand)?,
-            after,
-        ))
-    }
+>(descent: &Descent<'a, F>, rest: &'a str) -> Result<(Boxed<Expr>, &'a str), Stop>
+    requires { Nests descent.now.source (F.pre descent.now.nested) (F.post descent.now.nested) }
+    ensures { Opens term (at descent.now.source spec.unary rest.now) result }
+{
+    let (sign, after) = signs(&descent.source, rest);
+    let (operand, after) = path(descent, after)?;
+    let span = descent.source.span(rest, after);
+    Ok((signed(descent.alloc, span, sign, operand)?, after))
 }

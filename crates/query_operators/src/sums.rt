@@ -5,10 +5,10 @@ ghost use Rattle.query_terms.specs.Grammar as spec;
 ghost use Rattle.query_tokens.specs.Reads.{at};
 ghost use Rattle.query_tokens.specs.Descends.{Nests, Opens, Gathers};
 
-use crate::operators::OperatorReader;
+use crate::operators::union;
 use crate::symbols::{additive_operator, multiplicative_operator};
 use query_terms::{Expr, Nest, Operand, Span, Stop};
-use query_tokens::QuerySource;
+use query_tokens::{Descent, QuerySource};
 use sqlite_items::{Boxed, Items};
 use std::alloc::Global;
 use tree_model::NoMemory;
@@ -53,104 +53,109 @@ fn additive_term(
     Boxed::new(alloc, term)
 }
 
-impl<
+#[tactic(auto, unfolding(query_terms::specs::Grammar::next_union))]
+fn next_union<
     'a,
     F: Fn(Global, QuerySource<'a>, Nest, &'a str) -> Result<(Boxed<Expr>, &'a str), Stop>,
-> OperatorReader<'a, F> {
-    #[tactic(auto, unfolding(query_terms::specs::Grammar::next_union))]
-    fn next_union(&self, rest: &'a str) -> Result<(Operand, &'a str), Stop>
-        requires { Nests self.now.paths.markup.descent.source (F.pre self.now.paths.markup.descent.nested) (F.post self.now.paths.markup.descent.nested) }
-        ensures { Opens operand (at self.now.paths.markup.descent.source spec.next_union rest.now) result }
-    {
-        let after = self.paths.markup.descent.blanks(rest);
-        let (operator, after) = multiplicative_operator(
-            &self.paths.markup.descent.source,
-            after,
-        ).ok_or(Stop::Refused)?;
-        let after = self.paths.markup.descent.blanks(after);
-        let (operand, after) = self.union(after)?;
-        Ok((Operand { operator, operand }, after))
-    }
+>(descent: &Descent<'a, F>, rest: &'a str) -> Result<(Operand, &'a str), Stop>
+    requires { Nests descent.now.source (F.pre descent.now.nested) (F.post descent.now.nested) }
+    ensures { Opens operand (at descent.now.source spec.next_union rest.now) result }
+{
+    let after = descent.blanks(rest);
+    let (operator, after) = multiplicative_operator(&descent.source, after).ok_or(Stop::Refused)?;
+    let after = descent.blanks(after);
+    let (operand, after) = union(descent, after)?;
+    Ok((Operand { operator, operand }, after))
+}
 
-    fn next_unions(&self, rest: &'a str) -> Result<(Items<Operand>, &'a str), Stop>
-        requires { Nests self.now.paths.markup.descent.source (F.pre self.now.paths.markup.descent.nested) (F.post self.now.paths.markup.descent.nested) }
-        ensures { Gathers spec.operands_in (at self.now.paths.markup.descent.source (many spec.next_union) rest.now) result }
-    {
-        let mut found = Items::new(self.paths.markup.descent.alloc);
-        let mut after = rest;
-        for _turn in 0..rest.len() + 1 {
-            match self.next_union(after) {
-                Ok((item, next)) => {
-                    found.push(item)?;
-                    after = next;
-                }
-                Err(Stop::Refused) => return Ok((found, after)),
-                Err(Stop::TooDeep) => return Err(Stop::TooDeep),
-                Err(Stop::NoMemory) => return Err(Stop::NoMemory),
+fn next_unions<
+    'a,
+    F: Fn(Global, QuerySource<'a>, Nest, &'a str) -> Result<(Boxed<Expr>, &'a str), Stop>,
+>(descent: &Descent<'a, F>, rest: &'a str) -> Result<(Items<Operand>, &'a str), Stop>
+    requires { Nests descent.now.source (F.pre descent.now.nested) (F.post descent.now.nested) }
+    ensures { Gathers spec.operands_in (at descent.now.source (many spec.next_union) rest.now) result }
+{
+    let mut found = Items::new(descent.alloc);
+    let mut after = rest;
+    for _turn in 0..rest.len() + 1 {
+        match next_union(descent, after) {
+            Ok((item, next)) => {
+                found.push(item)?;
+                after = next;
             }
+            Err(Stop::Refused) => return Ok((found, after)),
+            Err(Stop::TooDeep) => return Err(Stop::TooDeep),
+            Err(Stop::NoMemory) => return Err(Stop::NoMemory),
         }
-        Ok((found, after))
     }
+    Ok((found, after))
+}
 
-    #[tactic(auto, unfolding(query_terms::specs::Grammar::multiplicative))]
-    fn multiplicative(&self, rest: &'a str) -> Result<(Boxed<Expr>, &'a str), Stop>
-        requires { Nests self.now.paths.markup.descent.source (F.pre self.now.paths.markup.descent.nested) (F.post self.now.paths.markup.descent.nested) }
-        ensures { Opens term (at self.now.paths.markup.descent.source spec.multiplicative rest.now) result }
-    {
-        let (first, after) = self.union(rest)?;
-        let (others, after) = self.next_unions(after)?;
-        let span = self.paths.markup.descent.source.span(rest, after);
-        Ok((
-            multiplicative_term(self.paths.markup.descent.alloc, span, first, others)?,
-            after,
-        ))
-    }
+#[tactic(auto, unfolding(query_terms::specs::Grammar::multiplicative))]
+fn multiplicative<
+    'a,
+    F: Fn(Global, QuerySource<'a>, Nest, &'a str) -> Result<(Boxed<Expr>, &'a str), Stop>,
+>(descent: &Descent<'a, F>, rest: &'a str) -> Result<(Boxed<Expr>, &'a str), Stop>
+    requires { Nests descent.now.source (F.pre descent.now.nested) (F.post descent.now.nested) }
+    ensures { Opens term (at descent.now.source spec.multiplicative rest.now) result }
+{
+    let (first, after) = union(descent, rest)?;
+    let (others, after) = next_unions(descent, after)?;
+    let span = descent.source.span(rest, after);
+    Ok((
+        multiplicative_term(descent.alloc, span, first, others)?,
+        after,
+    ))
+}
 
-    #[tactic(auto, unfolding(query_terms::specs::Grammar::next_multiplicative))]
-    fn next_multiplicative(&self, rest: &'a str) -> Result<(Operand, &'a str), Stop>
-        requires { Nests self.now.paths.markup.descent.source (F.pre self.now.paths.markup.descent.nested) (F.post self.now.paths.markup.descent.nested) }
-        ensures { Opens operand (at self.now.paths.markup.descent.source spec.next_multiplicative rest.now) result }
-    {
-        let after = self.paths.markup.descent.blanks(rest);
-        let (operator, after) = additive_operator(&self.paths.markup.descent.source, after).ok_or(
-            Stop::Refused,
-        )?;
-        let after = self.paths.markup.descent.blanks(after);
-        let (operand, after) = self.multiplicative(after)?;
-        Ok((Operand { operator, operand }, after))
-    }
+#[tactic(auto, unfolding(query_terms::specs::Grammar::next_multiplicative))]
+fn next_multiplicative<
+    'a,
+    F: Fn(Global, QuerySource<'a>, Nest, &'a str) -> Result<(Boxed<Expr>, &'a str), Stop>,
+>(descent: &Descent<'a, F>, rest: &'a str) -> Result<(Operand, &'a str), Stop>
+    requires { Nests descent.now.source (F.pre descent.now.nested) (F.post descent.now.nested) }
+    ensures { Opens operand (at descent.now.source spec.next_multiplicative rest.now) result }
+{
+    let after = descent.blanks(rest);
+    let (operator, after) = additive_operator(&descent.source, after).ok_or(Stop::Refused)?;
+    let after = descent.blanks(after);
+    let (operand, after) = multiplicative(descent, after)?;
+    Ok((Operand { operator, operand }, after))
+}
 
-    fn next_multiplicatives(&self, rest: &'a str) -> Result<(Items<Operand>, &'a str), Stop>
-        requires { Nests self.now.paths.markup.descent.source (F.pre self.now.paths.markup.descent.nested) (F.post self.now.paths.markup.descent.nested) }
-        ensures { Gathers spec.operands_in (at self.now.paths.markup.descent.source (many spec.next_multiplicative) rest.now) result }
-    {
-        let mut found = Items::new(self.paths.markup.descent.alloc);
-        let mut after = rest;
-        for _turn in 0..rest.len() + 1 {
-            match self.next_multiplicative(after) {
-                Ok((item, next)) => {
-                    found.push(item)?;
-                    after = next;
-                }
-                Err(Stop::Refused) => return Ok((found, after)),
-                Err(Stop::TooDeep) => return Err(Stop::TooDeep),
-                Err(Stop::NoMemory) => return Err(Stop::NoMemory),
+fn next_multiplicatives<
+    'a,
+    F: Fn(Global, QuerySource<'a>, Nest, &'a str) -> Result<(Boxed<Expr>, &'a str), Stop>,
+>(descent: &Descent<'a, F>, rest: &'a str) -> Result<(Items<Operand>, &'a str), Stop>
+    requires { Nests descent.now.source (F.pre descent.now.nested) (F.post descent.now.nested) }
+    ensures { Gathers spec.operands_in (at descent.now.source (many spec.next_multiplicative) rest.now) result }
+{
+    let mut found = Items::new(descent.alloc);
+    let mut after = rest;
+    for _turn in 0..rest.len() + 1 {
+        match next_multiplicative(descent, after) {
+            Ok((item, next)) => {
+                found.push(item)?;
+                after = next;
             }
+            Err(Stop::Refused) => return Ok((found, after)),
+            Err(Stop::TooDeep) => return Err(Stop::TooDeep),
+            Err(Stop::NoMemory) => return Err(Stop::NoMemory),
         }
-        Ok((found, after))
     }
+    Ok((found, after))
+}
 
-    #[tactic(auto, unfolding(query_terms::specs::Grammar::additive))]
-    pub(crate) fn additive(&self, rest: &'a str) -> Result<(Boxed<Expr>, &'a str), Stop>
-        requires { Nests self.now.paths.markup.descent.source (F.pre self.now.paths.markup.descent.nested) (F.post self.now.paths.markup.descent.nested) }
-        ensures { Opens term (at self.now.paths.markup.descent.source spec.additive rest.now) result }
-    {
-        let (first, after) = self.multiplicative(rest)?;
-        let (others, after) = self.next_multiplicatives(after)?;
-        let span = self.paths.markup.descent.source.span(rest, after);
-        Ok((
-            additive_term(self.paths.markup.descent.alloc, span, first, others)?,
-            after,
-        ))
-    }
+#[tactic(auto, unfolding(query_terms::specs::Grammar::additive))]
+pub(crate) fn additive<
+    'a,
+    F: Fn(Global, QuerySource<'a>, Nest, &'a str) -> Result<(Boxed<Expr>, &'a str), Stop>,
+>(descent: &Descent<'a, F>, rest: &'a str) -> Result<(Boxed<Expr>, &'a str), Stop>
+    requires { Nests descent.now.source (F.pre descent.now.nested) (F.post descent.now.nested) }
+    ensures { Opens term (at descent.now.source spec.additive rest.now) result }
+{
+    let (first, after) = multiplicative(descent, rest)?;
+    let (others, after) = next_multiplicatives(descent, after)?;
+    let span = descent.source.span(rest, after);
+    Ok((additive_term(descent.alloc, span, first, others)?, after))
 }

@@ -7,4 +7,4 @@ mod primaries;
 mod reserved;
 mod steps;
 
-pub use paths::PathReader;
+pub use paths::path;

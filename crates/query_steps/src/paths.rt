@@ -6,18 +6,12 @@ ghost use Rattle.query_tokens.specs.Reads.{at};
 ghost use Rattle.query_tokens.specs.Descends.{Nests, Opens};
 ghost use Rattle.query_steps.specs.Parts.{as_relative, as_maybe_relative};
 
-use query_constructors::Markup;
+use crate::steps::{next_steps, step};
 use query_terms::{Expr, Nest, PathStart, PathStep, Span, Stop};
-use query_tokens::{QuerySource, tried};
+use query_tokens::{Descent, QuerySource, tried};
 use sqlite_items::{Boxed, Items};
 use std::alloc::Global;
 use tree_model::NoMemory;
-
-/// A place to read paths at.
-#[derive(Clone, Copy)]
-pub struct PathReader<'a, F> {
-    pub markup: Markup<'a, F>,
-}
 
 // A step, and those behind it.
 #[derive(Drop)]
@@ -75,94 +69,102 @@ fn relative_term(
     Boxed::new(alloc, path)
 }
 
-impl<
+#[tactic(auto, unfolding(query_terms::specs::Grammar::relative))]
+fn read_relative<
     'a,
     F: Fn(Global, QuerySource<'a>, Nest, &'a str) -> Result<(Boxed<Expr>, &'a str), Stop>,
-> PathReader<'a, F> {
-    #[tactic(auto, unfolding(query_terms::specs::Grammar::relative))]
-    fn relative(&self, rest: &'a str) -> Result<(Relative, &'a str), Stop>
-        requires { Nests self.now.markup.descent.source (F.pre self.now.markup.descent.nested) (F.post self.now.markup.descent.nested) }
-        ensures { Opens as_relative (at self.now.markup.descent.source spec.relative rest.now) result }
-    {
-        let (first, after) = self.step(rest)?;
-        let (others, after) = self.next_steps(after)?;
-        Ok((Relative { first, others }, after))
-    }
+>(descent: &Descent<'a, F>, rest: &'a str) -> Result<(Relative, &'a str), Stop>
+    requires { Nests descent.now.source (F.pre descent.now.nested) (F.post descent.now.nested) }
+    ensures { Opens as_relative (at descent.now.source spec.relative rest.now) result }
+{
+    let (first, after) = step(descent, rest)?;
+    let (others, after) = next_steps(descent, after)?;
+    Ok((Relative { first, others }, after))
+}
 
-    #[tactic(auto, unfolding(query_terms::specs::Grammar::deep_path))]
-    fn deep_path(&self, rest: &'a str) -> Result<(Boxed<Expr>, &'a str), Stop>
-        requires { Nests self.now.markup.descent.source (F.pre self.now.markup.descent.nested) (F.post self.now.markup.descent.nested) }
-        ensures { Opens term (at self.now.markup.descent.source spec.deep_path rest.now) result }
-    {
-        let after = self.markup.descent.word(rest, "//")?;
-        let after = self.markup.descent.blanks(after);
-        let (relative, after) = self.relative(after)?;
-        let span = self.markup.descent.source.span(rest, after);
-        let path = path_term(
-            self.markup.descent.alloc,
-            span,
-            PathStart::BelowRoot,
-            relative,
-        )?;
-        Ok((path, after))
-    }
+#[tactic(auto, unfolding(query_terms::specs::Grammar::deep_path))]
+fn deep_path<
+    'a,
+    F: Fn(Global, QuerySource<'a>, Nest, &'a str) -> Result<(Boxed<Expr>, &'a str), Stop>,
+>(descent: &Descent<'a, F>, rest: &'a str) -> Result<(Boxed<Expr>, &'a str), Stop>
+    requires { Nests descent.now.source (F.pre descent.now.nested) (F.post descent.now.nested) }
+    ensures { Opens term (at descent.now.source spec.deep_path rest.now) result }
+{
+    let after = descent.word(rest, "//")?;
+    let after = descent.blanks(after);
+    let (relative, after) = read_relative(descent, after)?;
+    let span = descent.source.span(rest, after);
+    let path = path_term(descent.alloc, span, PathStart::BelowRoot, relative)?;
+    Ok((path, after))
+}
 
-    #[tactic(auto, unfolding(query_terms::specs::Grammar::below_root))]
-    fn below_root(&self, rest: &'a str) -> Result<(Relative, &'a str), Stop>
-        requires { Nests self.now.markup.descent.source (F.pre self.now.markup.descent.nested) (F.post self.now.markup.descent.nested) }
-        ensures { Opens as_relative (at self.now.markup.descent.source spec.below_root rest.now) result }
-    {
-        let after = self.markup.descent.blanks(rest);
-        self.relative(after)
-    }
+#[tactic(auto, unfolding(query_terms::specs::Grammar::below_root))]
+fn below_root<
+    'a,
+    F: Fn(Global, QuerySource<'a>, Nest, &'a str) -> Result<(Boxed<Expr>, &'a str), Stop>,
+>(descent: &Descent<'a, F>, rest: &'a str) -> Result<(Relative, &'a str), Stop>
+    requires { Nests descent.now.source (F.pre descent.now.nested) (F.post descent.now.nested) }
+    ensures { Opens as_relative (at descent.now.source spec.below_root rest.now) result }
+{
+    let after = descent.blanks(rest);
+    read_relative(descent, after)
+}
 
-    fn maybe_below_root(&self, rest: &'a str) -> Result<(Option<Relative>, &'a str), Stop>
-        requires { Nests self.now.markup.descent.source (F.pre self.now.markup.descent.nested) (F.post self.now.markup.descent.nested) }
-        ensures { Opens as_maybe_relative (at self.now.markup.descent.source (opt spec.below_root) rest.now) result }
-    {
-        match tried(self.below_root(rest))? {
-            Some((found, after)) => Ok((Some(found), after)),
-            None => Ok((None, rest)),
-        }
+fn maybe_below_root<
+    'a,
+    F: Fn(Global, QuerySource<'a>, Nest, &'a str) -> Result<(Boxed<Expr>, &'a str), Stop>,
+>(descent: &Descent<'a, F>, rest: &'a str) -> Result<(Option<Relative>, &'a str), Stop>
+    requires { Nests descent.now.source (F.pre descent.now.nested) (F.post descent.now.nested) }
+    ensures { Opens as_maybe_relative (at descent.now.source (opt spec.below_root) rest.now) result }
+{
+    match tried(below_root(descent, rest))? {
+        Some((found, after)) => Ok((Some(found), after)),
+        None => Ok((None, rest)),
     }
+}
 
-    #[tactic(auto, unfolding(query_terms::specs::Grammar::rooted_path))]
-    fn rooted_path(&self, rest: &'a str) -> Result<(Boxed<Expr>, &'a str), Stop>
-        requires { Nests self.now.markup.descent.source (F.pre self.now.markup.descent.nested) (F.post self.now.markup.descent.nested) }
-        ensures { Opens term (at self.now.markup.descent.source spec.rooted_path rest.now) result }
-    {
-        let after = self.markup.descent.word(rest, "/")?;
-        let (relative, after) = self.maybe_below_root(after)?;
-        let span = self.markup.descent.source.span(rest, after);
-        Ok((rooted(self.markup.descent.alloc, span, relative)?, after))
-    }
+#[tactic(auto, unfolding(query_terms::specs::Grammar::rooted_path))]
+fn rooted_path<
+    'a,
+    F: Fn(Global, QuerySource<'a>, Nest, &'a str) -> Result<(Boxed<Expr>, &'a str), Stop>,
+>(descent: &Descent<'a, F>, rest: &'a str) -> Result<(Boxed<Expr>, &'a str), Stop>
+    requires { Nests descent.now.source (F.pre descent.now.nested) (F.post descent.now.nested) }
+    ensures { Opens term (at descent.now.source spec.rooted_path rest.now) result }
+{
+    let after = descent.word(rest, "/")?;
+    let (relative, after) = maybe_below_root(descent, after)?;
+    let span = descent.source.span(rest, after);
+    Ok((rooted(descent.alloc, span, relative)?, after))
+}
 
-    #[tactic(auto, unfolding(query_terms::specs::Grammar::relative_path))]
-    fn relative_path(&self, rest: &'a str) -> Result<(Boxed<Expr>, &'a str), Stop>
-        requires { Nests self.now.markup.descent.source (F.pre self.now.markup.descent.nested) (F.post self.now.markup.descent.nested) }
-        ensures { Opens term (at self.now.markup.descent.source spec.relative_path rest.now) result }
-    {
-        let (relative, after) = self.relative(rest)?;
-        let span = self.markup.descent.source.span(rest, after);
-        let Relative { first, others } = relative;
-        Ok((
-            relative_term(self.markup.descent.alloc, span, first, others)?,
-            after,
-        ))
-    }
+#[tactic(auto, unfolding(query_terms::specs::Grammar::relative_path))]
+fn relative_path<
+    'a,
+    F: Fn(Global, QuerySource<'a>, Nest, &'a str) -> Result<(Boxed<Expr>, &'a str), Stop>,
+>(descent: &Descent<'a, F>, rest: &'a str) -> Result<(Boxed<Expr>, &'a str), Stop>
+    requires { Nests descent.now.source (F.pre descent.now.nested) (F.post descent.now.nested) }
+    ensures { Opens term (at descent.now.source spec.relative_path rest.now) result }
+{
+    let (relative, after) = read_relative(descent, rest)?;
+    let span = descent.source.span(rest, after);
+    let Relative { first, others } = relative;
+    Ok((relative_term(descent.alloc, span, first, others)?, after))
+}
 
-    /// A path, or a step alone.
-    #[tactic(auto, unfolding(query_terms::specs::Grammar::path))]
-    pub fn path(&self, rest: &'a str) -> Result<(Boxed<Expr>, &'a str), Stop>
-        requires { Nests self.now.markup.descent.source (F.pre self.now.markup.descent.nested) (F.post self.now.markup.descent.nested) }
-        ensures { Opens term (at self.now.markup.descent.source spec.path rest.now) result }
-    {
-        if let Some(found) = tried(self.deep_path(rest))? {
-            return Ok(found);
-        }
-        if let Some(found) = tried(self.rooted_path(rest))? {
-            return Ok(found);
-        }
-        self.relative_path(rest)
+/// A path, or a step alone.
+#[tactic(auto, unfolding(query_terms::specs::Grammar::path))]
+pub fn path<
+    'a,
+    F: Fn(Global, QuerySource<'a>, Nest, &'a str) -> Result<(Boxed<Expr>, &'a str), Stop>,
+>(descent: &Descent<'a, F>, rest: &'a str) -> Result<(Boxed<Expr>, &'a str), Stop>
+    requires { Nests descent.now.source (F.pre descent.now.nested) (F.post descent.now.nested) }
+    ensures { Opens term (at descent.now.source spec.path rest.now) result }
+{
+    if let Some(found) = tried(deep_path(descent, rest))? {
+        return Ok(found);
     }
+    if let Some(found) = tried(rooted_path(descent, rest))? {
+        return Ok(found);
+    }
+    relative_path(descent, rest)
 }

@@ -1,15 +1,13 @@
 // What nests: expressions without a comma, and elements. At most 200 are open at a place.
 ghost use Rattle.std.specs.Prelude.{◌≡◌};
 ghost use Rattle.query_terms.specs.Rule.{term, call, nested as nested_rule};
-ghost use Rattle.query_terms.specs.Markup as markup;
 ghost use Rattle.query_terms.specs.Grammar as spec;
 ghost use Rattle.query_tokens.specs.Reads.{at};
 ghost use Rattle.query_tokens.specs.Descends.{Nests, Opens};
 
-use query_clauses::ClauseReader;
-use query_constructors::Markup;
-use query_operators::OperatorReader;
-use query_steps::PathReader;
+use query_clauses::{conditional, delete, flwor, insert, quantified, rename, replace};
+use query_constructors::element;
+use query_operators::disjunction;
 use query_terms::{Expr, Nest, Stop};
 use query_tokens::{Descent, QuerySource, tried};
 use sqlite_items::Boxed;
@@ -19,92 +17,33 @@ use std::alloc::Global;
 #[tactic(auto, unfolding(query_terms::specs::Grammar::single_rule))]
 fn single_rule<
     'a,
-    F: Copy + Fn(Global, QuerySource<'a>, Nest, &'a str) -> Result<(Boxed<Expr>, &'a str), Stop>,
->(
-    alloc: Global,
-    source: QuerySource<'a>,
-    nested: F,
-    rest: &'a str,
-) -> Result<(Boxed<Expr>, &'a str), Stop>
-    requires { Nests source (F.pre nested) (F.post nested) }
-    ensures { Opens term (at source.entry spec.single_rule rest.now) result }
+    F: Fn(Global, QuerySource<'a>, Nest, &'a str) -> Result<(Boxed<Expr>, &'a str), Stop>,
+>(descent: &Descent<'a, F>, rest: &'a str) -> Result<(Boxed<Expr>, &'a str), Stop>
+    requires { Nests descent.now.source (F.pre descent.now.nested) (F.post descent.now.nested) }
+    ensures { Opens term (at descent.now.source spec.single_rule rest.now) result }
 {
-    let clauses = ClauseReader {
-        descent: Descent {
-            alloc,
-            source,
-            nested,
-        },
-    };
-    if let Some(found) = tried(clauses.flwor(rest))? {
+    if let Some(found) = tried(flwor(descent, rest))? {
         return Ok(found);
     }
-    if let Some(found) = tried(clauses.quantified(rest))? {
+    if let Some(found) = tried(quantified(descent, rest))? {
         return Ok(found);
     }
-    if let Some(found) = tried(clauses.conditional(rest))? {
+    if let Some(found) = tried(conditional(descent, rest))? {
         return Ok(found);
     }
-    if let Some(found) = tried(clauses.insert(rest))? {
+    if let Some(found) = tried(insert(descent, rest))? {
         return Ok(found);
     }
-    if let Some(found) = tried(clauses.delete(rest))? {
+    if let Some(found) = tried(delete(descent, rest))? {
         return Ok(found);
     }
-    if let Some(found) = tried(clauses.replace(rest))? {
+    if let Some(found) = tried(replace(descent, rest))? {
         return Ok(found);
     }
-    if let Some(found) = tried(clauses.rename(rest))? {
+    if let Some(found) = tried(rename(descent, rest))? {
         return Ok(found);
     }
-    operators(alloc, source, nested, rest)
-}
-
-fn operators<
-    'a,
-    F: Copy + Fn(Global, QuerySource<'a>, Nest, &'a str) -> Result<(Boxed<Expr>, &'a str), Stop>,
->(
-    alloc: Global,
-    source: QuerySource<'a>,
-    nested: F,
-    rest: &'a str,
-) -> Result<(Boxed<Expr>, &'a str), Stop>
-    requires { Nests source (F.pre nested) (F.post nested) }
-    ensures { Opens term (at source.entry spec.or_rule rest.now) result }
-{
-    let markup = Markup {
-        descent: Descent {
-            alloc,
-            source,
-            nested,
-        },
-    };
-    let operators = OperatorReader {
-        paths: PathReader { markup },
-    };
-    operators.disjunction(rest)
-}
-
-fn element<
-    'a,
-    F: Copy + Fn(Global, QuerySource<'a>, Nest, &'a str) -> Result<(Boxed<Expr>, &'a str), Stop>,
->(
-    alloc: Global,
-    source: QuerySource<'a>,
-    nested: F,
-    rest: &'a str,
-) -> Result<(Boxed<Expr>, &'a str), Stop>
-    requires { Nests source (F.pre nested) (F.post nested) }
-    ensures { Opens term (at source.entry markup.elem_rule rest.now) result }
-{
-    let markup = Markup {
-        descent: Descent {
-            alloc,
-            source,
-            nested,
-        },
-    };
-    markup.element(rest)
+    disjunction(descent, rest)
 }
 
 // Opens a nest, where fewer than 200 are open.
@@ -119,13 +58,17 @@ pub(crate) fn nested<'a>(
     if source.room == 0 {
         return Err(Stop::TooDeep);
     }
-    let inner = QuerySource {
-        query: source.query,
-        comment_ends: source.comment_ends,
-        room: source.room - 1,
+    let descent = Descent {
+        alloc,
+        source: QuerySource {
+            query: source.query,
+            comment_ends: source.comment_ends,
+            room: source.room - 1,
+        },
+        nested,
     };
     match nest {
-        Nest::Single => single_rule(alloc, inner, nested, rest),
-        Nest::Elem => element(alloc, inner, nested, rest),
+        Nest::Single => single_rule(&descent, rest),
+        Nest::Elem => element(&descent, rest),
     }
 }

@@ -2,7 +2,6 @@
 use Rattle.std.specs.Prelude.{Bool, true, false, ◌||◌, List, Option, Some, None}
 use Rattle.std.specs.List.{list_any}
 use Rattle.query_terms.specs.declared.tree.Clause.TheOpen.{Attribute-F, Clause-F, Content-F, Expr-F, Operand-F, OrderKey-F, PathStep-F}
-use Rattle.query_terms.specs.declared.tree.Clause.TheFolds.{fold-Expr}
 use Rattle.query_terms.specs.declared.tree.Expr.{Expr}
 use Rattle.query_terms.specs.declared.tree.Clause.TheViews.{out-Content}
 use Rattle.query_terms.specs.declared.tree.Clause.{Clause}
@@ -11,6 +10,7 @@ use Rattle.query_terms.specs.declared.tree.Attribute.{Attribute}
 use Rattle.query_terms.specs.declared.tree.Operand.{Operand}
 use Rattle.query_terms.specs.declared.tree.OrderKey.{OrderKey}
 use Rattle.query_terms.specs.declared.tree.PathStep.{PathStep}
+use Rattle.query_terms.specs.Folds.{Algebra, expression_value}
 
 -- ---- one level: whether a part holds one
 
@@ -82,9 +82,21 @@ in_step s = s.step
 
 -- ---- expressions
 
+-- whether a term holds a constructor, by its parts
+abbrev pub holding : Algebra Bool Bool Bool Bool Bool Bool Bool
+holding = record {
+  of_clause = in_clause;
+  of_content = in_content;
+  of_expression = in_expression;
+  of_attribute = in_attribute;
+  of_operand = in_operand;
+  of_key = in_key;
+  of_step = in_step;
+}
+
 -- an element, comment, processing instruction, attribute, text or document is made somewhere in the expression
-unfoldable pub holds_constructor : Expr → Bool
-holds_constructor = fold-Expr Bool Bool Bool Bool Bool Bool Bool in_clause in_content in_expression in_attribute in_operand in_key in_step
+abbrev pub holds_constructor : Expr → Bool
+holds_constructor = expression_value holding
 
 -- by what a part of content is made of
 abbrev pub encloses : Content-F Clause Content Expr Attribute Operand OrderKey PathStep → Bool

@@ -1,6 +1,7 @@
 pub mod Rule
 pub mod Lexis
 pub mod Tests
+pub mod Folds
 pub mod Constructors
 pub mod Markup
 pub mod Grammar

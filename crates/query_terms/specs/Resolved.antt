@@ -18,7 +18,6 @@ use Rattle.query_terms.specs.declared.parts.ComputedKind.TheVariants as kinds
 use Rattle.query_terms.specs.declared.parts.NodeTest.{NodeTest}
 use Rattle.query_terms.specs.declared.parts.NodeTest.TheVariants as tests
 use Rattle.query_terms.specs.declared.tree.Clause.TheOpen.{Attribute-F, Clause-F, Content-F, Expr-F, Operand-F, OrderKey-F, PathStep-F}
-use Rattle.query_terms.specs.declared.tree.Clause.TheFolds.{fold-Attribute, fold-Clause, fold-Content, fold-Expr, fold-Operand, fold-OrderKey, fold-PathStep}
 use Rattle.query_terms.specs.declared.tree.Attribute.{Attribute, roll-Attribute}
 use Rattle.query_terms.specs.declared.tree.Clause.{Clause}
 use Rattle.query_terms.specs.declared.tree.Clause.TheVariants as clauses
@@ -32,6 +31,7 @@ use Rattle.query_terms.specs.declared.tree.PathStep.{PathStep, roll-PathStep}
 use Rattle.query_terms.specs.declared.tree.QueryTree.{QueryTree}
 use Rattle.query_terms.specs.Rule.{Text}
 use Rattle.query_terms.specs.Static.{declared_by, declared_in, functions_uri, prolog_bindings, uri_of, uri_or}
+use Rattle.query_terms.specs.Folds.{Algebra, attribute_value, clause_value, content_value, expression_value, key_value, operand_value, step_value}
 
 -- ---- names
 
@@ -208,26 +208,38 @@ in_step s b = roll-PathStep (record { is_deep = s.is_deep; step = s.step b })
 
 -- ---- whole terms
 
-unfoldable pub resolved : Expr → Resolution Expr
-resolved = fold-Expr (Resolution Clause) ContentResolution (Resolution Expr) AttributeResolution (Resolution Operand) (Resolution OrderKey) (Resolution PathStep) in_clause in_content in_expression in_attribute in_operand in_key in_step
+-- what a term becomes, by its parts
+abbrev pub resolving : Algebra (Resolution Clause) ContentResolution (Resolution Expr) AttributeResolution (Resolution Operand) (Resolution OrderKey) (Resolution PathStep)
+resolving = record {
+  of_clause = in_clause;
+  of_content = in_content;
+  of_expression = in_expression;
+  of_attribute = in_attribute;
+  of_operand = in_operand;
+  of_key = in_key;
+  of_step = in_step;
+}
 
-unfoldable pub clause : Clause → Resolution Clause
-clause = fold-Clause (Resolution Clause) ContentResolution (Resolution Expr) AttributeResolution (Resolution Operand) (Resolution OrderKey) (Resolution PathStep) in_clause in_content in_expression in_attribute in_operand in_key in_step
+abbrev pub resolved : Expr → Resolution Expr
+resolved = expression_value resolving
 
-unfoldable pub content : Content → ContentResolution
-content = fold-Content (Resolution Clause) ContentResolution (Resolution Expr) AttributeResolution (Resolution Operand) (Resolution OrderKey) (Resolution PathStep) in_clause in_content in_expression in_attribute in_operand in_key in_step
+abbrev pub clause : Clause → Resolution Clause
+clause = clause_value resolving
 
-unfoldable pub attribute : Attribute → AttributeResolution
-attribute = fold-Attribute (Resolution Clause) ContentResolution (Resolution Expr) AttributeResolution (Resolution Operand) (Resolution OrderKey) (Resolution PathStep) in_clause in_content in_expression in_attribute in_operand in_key in_step
+abbrev pub content : Content → ContentResolution
+content = content_value resolving
 
-unfoldable pub operand : Operand → Resolution Operand
-operand = fold-Operand (Resolution Clause) ContentResolution (Resolution Expr) AttributeResolution (Resolution Operand) (Resolution OrderKey) (Resolution PathStep) in_clause in_content in_expression in_attribute in_operand in_key in_step
+abbrev pub attribute : Attribute → AttributeResolution
+attribute = attribute_value resolving
 
-unfoldable pub key : OrderKey → Resolution OrderKey
-key = fold-OrderKey (Resolution Clause) ContentResolution (Resolution Expr) AttributeResolution (Resolution Operand) (Resolution OrderKey) (Resolution PathStep) in_clause in_content in_expression in_attribute in_operand in_key in_step
+abbrev pub operand : Operand → Resolution Operand
+operand = operand_value resolving
 
-unfoldable pub step : PathStep → Resolution PathStep
-step = fold-PathStep (Resolution Clause) ContentResolution (Resolution Expr) AttributeResolution (Resolution Operand) (Resolution OrderKey) (Resolution PathStep) in_clause in_content in_expression in_attribute in_operand in_key in_step
+abbrev pub key : OrderKey → Resolution OrderKey
+key = key_value resolving
+
+abbrev pub step : PathStep → Resolution PathStep
+step = step_value resolving
 
 unfoldable pub resolved_query : QueryTree → QueryTree
 resolved_query q = record { declarations = q.declarations; body = resolved q.body (prolog_bindings q.declarations) }

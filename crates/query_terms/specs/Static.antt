@@ -16,7 +16,6 @@ use Rattle.query_terms.specs.declared.parts.Binding.{Binding}
 use Rattle.query_terms.specs.declared.parts.NodeTest.{NodeTest}
 use Rattle.query_terms.specs.declared.parts.NodeTest.TheVariants as tests
 use Rattle.query_terms.specs.declared.tree.Clause.TheOpen.{Attribute-F, Clause-F, Content-F, Expr-F, Operand-F, OrderKey-F, PathStep-F}
-use Rattle.query_terms.specs.declared.tree.Clause.TheFolds.{fold-Attribute, fold-Clause, fold-Content, fold-Expr, fold-Operand, fold-OrderKey, fold-PathStep}
 use Rattle.query_terms.specs.declared.tree.Attribute.{Attribute}
 use Rattle.query_terms.specs.declared.tree.Clause.{Clause}
 use Rattle.query_terms.specs.declared.tree.Content.{Content}
@@ -28,6 +27,7 @@ use Rattle.query_terms.specs.declared.tree.OrderKey.{OrderKey}
 use Rattle.query_terms.specs.declared.tree.PathStep.{PathStep}
 use Rattle.query_terms.specs.declared.tree.QueryTree.{QueryTree}
 use Rattle.query_terms.specs.Rule.{Text}
+use Rattle.query_terms.specs.Folds.{Algebra, attribute_value, clause_value, content_value, expression_value, key_value, operand_value, step_value}
 
 -- ---- faults
 
@@ -359,26 +359,38 @@ in_step s = s.step
 
 -- ---- whole terms
 
-unfoldable pub faults : Expr → Meaning
-faults = fold-Expr ClauseMeaning ContentMeaning Meaning AttributeMeaning Meaning Meaning Meaning in_clause in_content in_expression in_attribute in_operand in_key in_step
+-- what a term gives, by its parts
+abbrev pub finding : Algebra ClauseMeaning ContentMeaning Meaning AttributeMeaning Meaning Meaning Meaning
+finding = record {
+  of_clause = in_clause;
+  of_content = in_content;
+  of_expression = in_expression;
+  of_attribute = in_attribute;
+  of_operand = in_operand;
+  of_key = in_key;
+  of_step = in_step;
+}
 
-unfoldable pub clause : Clause → ClauseMeaning
-clause = fold-Clause ClauseMeaning ContentMeaning Meaning AttributeMeaning Meaning Meaning Meaning in_clause in_content in_expression in_attribute in_operand in_key in_step
+abbrev pub faults : Expr → Meaning
+faults = expression_value finding
 
-unfoldable pub content : Content → ContentMeaning
-content = fold-Content ClauseMeaning ContentMeaning Meaning AttributeMeaning Meaning Meaning Meaning in_clause in_content in_expression in_attribute in_operand in_key in_step
+abbrev pub clause : Clause → ClauseMeaning
+clause = clause_value finding
 
-unfoldable pub attribute : Attribute → AttributeMeaning
-attribute = fold-Attribute ClauseMeaning ContentMeaning Meaning AttributeMeaning Meaning Meaning Meaning in_clause in_content in_expression in_attribute in_operand in_key in_step
+abbrev pub content : Content → ContentMeaning
+content = content_value finding
 
-unfoldable pub operand : Operand → Meaning
-operand = fold-Operand ClauseMeaning ContentMeaning Meaning AttributeMeaning Meaning Meaning Meaning in_clause in_content in_expression in_attribute in_operand in_key in_step
+abbrev pub attribute : Attribute → AttributeMeaning
+attribute = attribute_value finding
 
-unfoldable pub key : OrderKey → Meaning
-key = fold-OrderKey ClauseMeaning ContentMeaning Meaning AttributeMeaning Meaning Meaning Meaning in_clause in_content in_expression in_attribute in_operand in_key in_step
+abbrev pub operand : Operand → Meaning
+operand = operand_value finding
 
-unfoldable pub step : PathStep → Meaning
-step = fold-PathStep ClauseMeaning ContentMeaning Meaning AttributeMeaning Meaning Meaning Meaning in_clause in_content in_expression in_attribute in_operand in_key in_step
+abbrev pub key : OrderKey → Meaning
+key = key_value finding
+
+abbrev pub step : PathStep → Meaning
+step = step_value finding
 
 -- ---- the prolog
 

@@ -1,10 +1,10 @@
 -- Which expressions are updating (XQuery Update Facility 1.0, section 2.2).
 use Rattle.std.specs.Prelude.{Bool, true, false, ◌||◌}
 use Rattle.query_terms.specs.declared.tree.Clause.TheOpen.{Attribute-F, Clause-F, Content-F, Expr-F, Operand-F, OrderKey-F, PathStep-F}
-use Rattle.query_terms.specs.declared.tree.Clause.TheFolds.{fold-Expr}
 use Rattle.query_terms.specs.declared.tree.Expr.{Expr}
 use Rattle.query_terms.specs.declared.tree.QueryTree.{QueryTree}
 use Rattle.query_terms.specs.Constructors.{Level, some, maybe}
+use Rattle.query_terms.specs.Folds.{Algebra, expression_value}
 
 abbrev pub in_expression : Level → Bool
 in_expression (Expr-F.Comma span first others) = first || some others
@@ -36,8 +36,20 @@ in_key k = false
 abbrev pub in_step : PathStep-F Bool Bool Bool Bool Bool Bool Bool → Bool
 in_step s = false
 
-unfoldable pub is_updating : Expr → Bool
-is_updating = fold-Expr Bool Bool Bool Bool Bool Bool Bool in_clause in_content in_expression in_attribute in_operand in_key in_step
+-- whether a term updates, by its parts
+abbrev pub updating : Algebra Bool Bool Bool Bool Bool Bool Bool
+updating = record {
+  of_clause = in_clause;
+  of_content = in_content;
+  of_expression = in_expression;
+  of_attribute = in_attribute;
+  of_operand = in_operand;
+  of_key = in_key;
+  of_step = in_step;
+}
+
+abbrev pub is_updating : Expr → Bool
+is_updating = expression_value updating
 
 abbrev pub is_updating_query : QueryTree → Bool
 is_updating_query q = is_updating q.body

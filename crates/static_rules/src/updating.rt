@@ -21,7 +21,7 @@ fn are_updating(parts: &[Expr]) -> bool
 // An insertion, a deletion, a replacement or a renaming, or an expression whose value one of these may be: an operand of a
 // comma, the body of parentheses, a branch, or the result of a FLWOR.
 #[cycle(updating)]
-#[tactic(auto, using(crate::proofs::UpdatingEquations::by_kind))]
+#[tactic(auto, using(query_terms::proofs::Folds::by_kind))]
 pub(crate) fn is_updating(e: &Expr) -> bool
     ensures { result ≡ spec.is_updating e.now }
 {

@@ -62,7 +62,7 @@ impl<F: Fn(Global, usize, &mut State, &Expr) -> Result<(), NoMemory>> Walk<F> {
         }
     }
 
-    #[tactic(auto, unfolding(query_terms::specs::Static::all), using(crate::proofs::FaultEquations::by_part))]
+    #[tactic(auto, unfolding(query_terms::specs::Static::all), using(query_terms::proofs::Folds::by_part))]
     fn all(&self, state: &mut State, mut parts: &[Expr]) -> Result<(), NoMemory>
         requires { Walks self.now.depth (F.pre self.now.walk) (F.post self.now.walk) }
         ensures { Walked (spec.all (map spec.faults parts.entry.now)) result state.old state.new }
@@ -204,7 +204,7 @@ impl<F: Fn(Global, usize, &mut State, &Expr) -> Result<(), NoMemory>> Walk<F> {
         state.environment.bind(self.alloc, variable)
     }
 
-    #[tactic(auto, using(crate::proofs::FaultEquations::by_part))]
+    #[tactic(auto, using(query_terms::proofs::Folds::by_part))]
     fn clause(&self, state: &mut State, clause: &Clause) -> Result<(), NoMemory>
         requires { Walks self.now.depth (F.pre self.now.walk) (F.post self.now.walk) }
         ensures { WalkedInto (spec.clause clause.now).faults (spec.clause clause.now).behind result state.old state.new }
@@ -278,7 +278,7 @@ impl<F: Fn(Global, usize, &mut State, &Expr) -> Result<(), NoMemory>> Walk<F> {
         Ok(())
     }
 
-    #[tactic(auto, using(crate::proofs::FaultEquations::by_part))]
+    #[tactic(auto, using(query_terms::proofs::Folds::by_part))]
     fn content(&self, state: &mut State, content: &Content) -> Result<(), NoMemory>
         requires { Walks self.now.depth (F.pre self.now.walk) (F.post self.now.walk) }
         ensures { Walked (spec.content content.now).faults result state.old state.new }
@@ -293,7 +293,7 @@ impl<F: Fn(Global, usize, &mut State, &Expr) -> Result<(), NoMemory>> Walk<F> {
         }
     }
 
-    #[tactic(auto, unfolding(query_terms::specs::Static::contents_faults), using(crate::proofs::FaultEquations::by_part))]
+    #[tactic(auto, unfolding(query_terms::specs::Static::contents_faults), using(query_terms::proofs::Folds::by_part))]
     fn contents(&self, state: &mut State, mut parts: &[Content]) -> Result<(), NoMemory>
         requires { Walks self.now.depth (F.pre self.now.walk) (F.post self.now.walk) }
         ensures { Walked (spec.contents_faults (map spec.content parts.entry.now)) result state.old state.new }
@@ -328,7 +328,7 @@ impl<F: Fn(Global, usize, &mut State, &Expr) -> Result<(), NoMemory>> Walk<F> {
         self.attribute_parts(state, &attribute.name, attribute.value.as_slice())
     }
 
-    #[tactic(auto, unfolding(query_terms::specs::Static::attributes_faults), using(crate::proofs::FaultEquations::by_part))]
+    #[tactic(auto, unfolding(query_terms::specs::Static::attributes_faults), using(query_terms::proofs::Folds::by_part))]
     fn attributes(&self, state: &mut State, mut parts: &[Attribute]) -> Result<(), NoMemory>
         requires { Walks self.now.depth (F.pre self.now.walk) (F.post self.now.walk) }
         ensures { Walked (spec.attributes_faults (map spec.attribute parts.entry.now)) result state.old state.new }
@@ -412,7 +412,7 @@ impl<F: Fn(Global, usize, &mut State, &Expr) -> Result<(), NoMemory>> Walk<F> {
     }
 
     // Each kind of expression by itself.
-    #[tactic(auto, using(crate::proofs::FaultEquations::by_kind))]
+    #[tactic(auto, using(query_terms::proofs::Folds::by_kind))]
     fn expression(&self, state: &mut State, e: &Expr) -> Result<(), NoMemory>
         requires { Walks self.now.depth (F.pre self.now.walk) (F.post self.now.walk) }
         ensures { Walked (spec.faults e.now) result state.old state.new }

@@ -1,0 +1,24 @@
+use Rattle.std.proofs.Common.{ap, sym, ◌∙◌, ◌++◌, List, rules}
+use Rattle.query_terms.specs.declared.tree.Clause.{Clause}
+use Rattle.query_terms.specs.Rule.{clauses}
+use Rattle.query_terms.specs.Grammar.{clauses_in}
+use Rattle.query_tokens.proofs.Loops.{begun, went_on, ended_by, failed_by, ran_out}
+use Rattle.query_clauses.proofs.bindings.next_binding_clauses.Goals as goal
+
+pub loop-turn-init : goal.loop-turn-init
+loop-turn-init g c = (c.utf8.rest, begun clauses_in _ _ _ (sym c.new-found.ensures))
+
+pub returns-in-Err-Refused : goal.returns-in-Err-Refused
+returns-in-Err-Refused g c = ended_by _ _ c.loop-turn.invariant.1 c.in-Err-Refused.ensures c.in-Err-Refused.field-0-is
+
+pub returns-in-Err-TooDeep : goal.returns-in-Err-TooDeep
+returns-in-Err-TooDeep g c _ = failed_by _ _ _ c.loop-turn.invariant.1 c.loop-turn-test.true c.in-Err-TooDeep.ensures c.in-Err-TooDeep.field-0-is
+
+pub loop-turn-preserved : goal.loop-turn-preserved
+loop-turn-preserved g c = (
+  search rules,
+  went_on _ _ (clauses c.in-Ok.item) _ _ c.loop-turn.invariant.1 c.loop-turn-test.true c.in-Ok.ensures (λ v e. ap (λ (xs : List Clause). xs ++ c.in-Ok.item) e ∙ sym c.in_ok-append-in-Ok.ensures),
+)
+
+pub returns : goal.returns
+returns g c = ran_out _ _ c.loop-turn.invariant.1 c.loop-turn-test.false

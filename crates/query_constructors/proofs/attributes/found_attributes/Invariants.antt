@@ -1,0 +1,10 @@
+use Rattle.std.proofs.Common.{◌-◌}
+use denote.Text.{Utf8}
+use denote.Shadow.{shadow}
+use Rattle.query_terms.specs.Markup.{attributes_in, spaced_attribute}
+use Rattle.query_tokens.specs.Reads.{at}
+use Rattle.query_tokens.proofs.Loops.{Loop}
+use Rattle.query_constructors.proofs.attributes.found_attributes.Given as goal
+
+abbrev pub invariant-loop-turn : goal.invariant-loop-turn
+invariant-loop-turn g l = shadow (Utf8 l.after) × Loop attributes_in (at l.descent.source spaced_attribute) l.rest (l._turn-end - l._turn) l.after l.found

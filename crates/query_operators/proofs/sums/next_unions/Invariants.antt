@@ -1,0 +1,10 @@
+use Rattle.std.proofs.Common.{◌-◌}
+use denote.Text.{Utf8}
+use denote.Shadow.{shadow}
+use Rattle.query_terms.specs.Grammar.{operands_in, next_union}
+use Rattle.query_tokens.specs.Reads.{at}
+use Rattle.query_tokens.proofs.Loops.{Loop}
+use Rattle.query_operators.proofs.sums.next_unions.Given as goal
+
+abbrev pub invariant-loop-turn : goal.invariant-loop-turn
+invariant-loop-turn g l = shadow (Utf8 l.after) × Loop operands_in (at l.descent.source next_union) l.rest (l._turn-end - l._turn) l.after l.found

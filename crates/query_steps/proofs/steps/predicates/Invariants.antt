@@ -1,0 +1,11 @@
+use Rattle.std.proofs.Common.{◌-◌}
+use denote.Text.{Utf8}
+use denote.Shadow.{shadow}
+use Rattle.query_terms.specs.Markup.{terms_in}
+use Rattle.query_terms.specs.Grammar.{predicate}
+use Rattle.query_tokens.specs.Reads.{at}
+use Rattle.query_tokens.proofs.Loops.{Loop}
+use Rattle.query_steps.proofs.steps.predicates.Given as goal
+
+abbrev pub invariant-loop-turn : goal.invariant-loop-turn
+invariant-loop-turn g l = shadow (Utf8 l.after) × Loop terms_in (at l.descent.source predicate) l.rest (l._turn-end - l._turn) l.after l.found
