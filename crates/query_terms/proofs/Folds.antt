@@ -179,12 +179,6 @@ pub step_is : {C T E A O K S : Type 0} (g : Algebra C T E A O K S) (x : PathStep
 unfolding clause_value content_value expression_value attribute_value operand_value key_value step_value
 step_is {C} {T} {E} {A} {O} {K} {S} g x = fold_out-PathStep C T E A O K S g.of_clause g.of_content g.of_expression g.of_attribute g.of_operand g.of_key g.of_step x
 
-pub parenthesized_none_is : {C T E A O K S : Type 0} (g : Algebra C T E A O K S) (span : Span) → expression_value g (exprs.Parenthesized span None) ≡ g.of_expression (Expr-F.Parenthesized span None)
-parenthesized_none_is g span = parenthesized_is g span None
-
-pub parenthesized_some_is : {C T E A O K S : Type 0} (g : Algebra C T E A O K S) (span : Span) (e : Expr) → expression_value g (exprs.Parenthesized span (Some e)) ≡ g.of_expression (Expr-F.Parenthesized span (Some (expression_value g e)))
-parenthesized_some_is g span e = parenthesized_is g span (Some e)
-
 -- for a search
 pub ruleset by_kind = (comma_is, flwor_is, quantified_is, if_is, insert_is, delete_is, replace_is, rename_is, or_is, and_is, comparison_is, range_is, additive_is, multiplicative_is, union_is, intersection_is, unary_is, root_is, path_is, filter_is, axis_step_is, number_is, string_is, variable_is, parenthesized_is, context_item_is, element_is, direct_comment_is, direct_instruction_is, computed_is, computed_by_value_is, computed_unnamed_is, call_is)
 
